@@ -1,0 +1,4 @@
+pub mod Grants
+pub mod Steps
+pub mod Unwinding
+pub mod Opened

@@ -1,0 +1,7 @@
+pub mod Orders
+pub mod Calls
+pub mod States
+pub mod Rules
+pub mod Runs
+pub mod Opening
+pub mod TwoRuns

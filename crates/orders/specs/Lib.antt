@@ -1,0 +1,3 @@
+pub mod Laws
+pub mod Compartments
+pub mod Ladder
