@@ -91,7 +91,12 @@ pub fn are_all_classed<M: Order, G: Order>(
     ensures { λ r. ⌜ r ≡ all-classed (order M·Order (now (marks .entry))) (order G·Order (now (grades .entry))) (book-of (now (register .entry))) floor ⌝ }
 {
     entries_classed(marks, grades, register.entries())
-        && certificates_pass(marks, grades, CertificateTest::Classes, register.certificates())
+        && certificates_pass(
+            marks,
+            grades,
+            CertificateTest::Classes,
+            register.certificates(),
+        )
         && grades.is_class(floor)
 }
 

@@ -3,6 +3,7 @@ ghost use Prim.Native.Nat.{_≤_};
 use crate::certificate::Certificate;
 use crate::entry::Entry;
 
+// How many sheets, certificates and seats a register may have.
 pub const MOST_SHEETS: usize = 64;
 
 pub const MOST_CERTIFICATES: usize = 32;

@@ -13,6 +13,7 @@ impl Register {
         &self.entries[..self.entry_count as usize]
     }
 
+    // The certificates, in the order of their program numbers where the numbers are sound.
     pub fn certificates(&self) -> &[Certificate]
         ensures { λ r. ⌜ now r ≡ book-of (now (self .entry)) .certificates ⌝ }
     {

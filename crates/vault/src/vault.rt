@@ -102,8 +102,14 @@ impl<M: Order, G: Order, S: Store> Vault<M, G, S> {
         let holder = self.caller(seat)?.certificate;
         let target = self.sheet(sheet)?;
         Refusal::Certified.unless(target.certificate.is_none())?;
-        Refusal::MarkRule.unless(self.marks.at_or_below(holder.writing.mark, target.label.mark))?;
-        Refusal::GradeRule.unless(self.grades.at_or_below(target.label.grade, holder.writing.grade))
+        Refusal::MarkRule.unless(
+            self.marks
+                .at_or_below(holder.writing.mark, target.label.mark),
+        )?;
+        Refusal::GradeRule.unless(
+            self.grades
+                .at_or_below(target.label.grade, holder.writing.grade),
+        )
     }
 
     // The record of the seat, if it may run the sheet, by marks and grades.
@@ -192,10 +198,15 @@ impl<M: Order, G: Order, S: Store> Vault<M, G, S> {
             return Err(Refusal::NotCertified);
         };
         Refusal::MarkRule.unless(
-            self.marks.at_or_below(target.label.mark, holder.reading.mark)
-                && self.marks.at_or_below(holder.writing.mark, next.reading.mark),
+            self.marks
+                .at_or_below(target.label.mark, holder.reading.mark)
+                && self.marks
+                    .at_or_below(holder.writing.mark, next.reading.mark),
         )?;
-        Refusal::GradeRule.unless(self.grades.at_or_below(next.reading.grade, holder.writing.grade))?;
+        Refusal::GradeRule.unless(
+            self.grades
+                .at_or_below(next.reading.grade, holder.writing.grade),
+        )?;
         self.seats.put(
             seat,
             Seat {

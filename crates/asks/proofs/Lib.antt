@@ -1,0 +1,4 @@
+mod Digits
+mod Cuts
+pub mod Peeling
+pub mod Texts
