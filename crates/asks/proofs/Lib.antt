@@ -1,4 +1,3 @@
 mod Digits
 mod Cuts
 pub mod Peeling
-pub mod Texts

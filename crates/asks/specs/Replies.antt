@@ -11,7 +11,7 @@ use Rattle.refusals.specs.Refusals.{number-of}
 use Rattle.model.specs.Calls as calls
 use Rattle.model.specs.Calls.{Call, Reply, read, write, run, hand, tell}
 use Rattle.asks.specs.declared.answer.Answer.{Answer}
-use Rattle.asks.specs.declared.answer.Answer.the-variants.{Malformed, Refused, Done, Bytes, Told, Opened}
+use Rattle.asks.specs.declared.answer.Answer.the-variants.{Malformed, Refused, Done, Told, Opened}
 
 -- the bytes 32 to 126 as they are, others as a dot
 abbrev pub visible : ℕ → ℕ
@@ -34,11 +34,14 @@ answer-text c buffer (Ok numbers) = codes "ok" ++ (joined (λ n. codes " " ++ de
 abbrev pub text : Call → Reply → List ℕ
 text c reply = answer-text c (reply .buffer) (reply .answer)
 
--- a printed line, case by case
+-- the printed line of a filled buffer
+abbrev pub filled-text : List ℕ → List ℕ
+filled-text buffer = codes "ok " ++ map visible buffer
+
+-- any other printed line, case by case
 abbrev pub line-text : Answer → List ℕ
 line-text Malformed = codes "?"
 line-text (Refused refusal) = codes "no " ++ decimal (number-of refusal)
 line-text Done = codes "ok"
-line-text (Bytes bytes) = codes "ok " ++ map visible (bytes .now)
 line-text (Told program slip) = codes "ok " ++ (decimal program ++ (codes " " ++ decimal slip))
 line-text (Opened number) = codes "open " ++ decimal number

@@ -10,14 +10,17 @@ use std::fmt;
 
 // A printed line: for a malformed line of input, for an answered call, and for the opening, with its number.
 #[derive(Clone, Copy, Debug)]
-pub enum Answer<'a> {
+pub enum Answer {
     Malformed,
     Refused(Refusal),
     Done,
-    Bytes(&'a [u8]),
     Told(u16, u64),
     Opened(u8),
 }
+
+// The printed line for an accepted call that filled a buffer.
+#[derive(Clone, Copy)]
+pub struct Filled<'a>(pub &'a [u8]);
 
 // Bytes as they are printed: those that show no sign as a dot.
 #[derive(Clone, Copy)]
@@ -45,7 +48,16 @@ impl fmt::Display for Visible<'_> as VisibleDisplay {
     }
 }
 
-pub impl fmt::Display for Answer<'_> as AnswerDisplay {
+pub impl fmt::Display for Filled<'_> as FilledDisplay {
+    ghost shown = { λ b. Some (replies.filled-text (b .0 .now)) };
+
+    fn fmt<W: fmt::Write>(&self, f: &mut fmt::Formatter<W>) -> fmt::Result {
+        let bytes = Visible(self.0);
+        write!(f, "ok {bytes}")
+    }
+}
+
+pub impl fmt::Display for Answer as AnswerDisplay {
     ghost shown = { λ a. Some (replies.line-text a) };
 
     fn fmt<W: fmt::Write>(&self, f: &mut fmt::Formatter<W>) -> fmt::Result {
@@ -56,10 +68,6 @@ pub impl fmt::Display for Answer<'_> as AnswerDisplay {
                 write!(f, "no {number}")
             }
             Answer::Done => write!(f, "ok"),
-            Answer::Bytes(bytes) => {
-                let bytes = Visible(bytes);
-                write!(f, "ok {bytes}")
-            }
             Answer::Told(program, slip) => write!(f, "ok {program} {slip}"),
             Answer::Opened(number) => write!(f, "open {number}"),
         }
