@@ -32,7 +32,7 @@ const SIZES: [u32; 5] = [8, 8, 4, 4, 4];
 const MEMORY: usize = 28;
 
 // The example's register. All numbers are unsigned, the highest byte first.
-pub const REGISTER: &[u8; 212] = b"\
+const REGISTER: &[u8; 212] = b"\
     \x00\x05\x00\x03\x00\x02\
     \x00\x00\x00\x08\x00\x00\x00\x08\x00\x00\x00\x04\x00\x00\x00\x04\x00\x00\x00\x04\
     \x00\x02\x00\x03\x00\x04\

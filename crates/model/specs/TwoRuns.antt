@@ -83,7 +83,8 @@ module _ (p : Policy) (v : Label) where
   abbrev pub Floored : Turn → Type 0
   Floored t = p .marks .below (holder t .reading .mark) (v .mark) ≡ false → p .grades .below (p .floor) (holder t .writing .grade) ≡ true
 
--- the law, for two vaults under one policy that begin in the states s and t
+-- the law, for two vaults that begin in the states s and t; they have one policy, since the register, the floor and the
+-- orders fix it
 pub record Two-runs (p : Policy) (s t : State) : Type 0 where
   -- where the sheets in view begin alike and the calls that are not struck are the same, those are answered alike,
   -- and everything in view ends alike

@@ -4,8 +4,8 @@ use Rattle.orders.specs.declared.order.Order.{Ghosts as Ordering}
 use Rattle.register.specs.declared.certificate.Certificate.{Certificate}
 use Rattle.model.specs.Orders.{Order}
 use Rattle.model.specs.Opening.{certificate-classed, in-range, floored}
-use Rattle.opening.specs.declared.tests.CertificateTest.{CertificateTest}
-use Rattle.opening.specs.declared.tests.CertificateTest.the-variants.{Classes, Ranges, Floor}
+use Rattle.opening.specs.declared.checks.CertificateTest.{CertificateTest}
+use Rattle.opening.specs.declared.checks.CertificateTest.the-variants.{Classes, Ranges, Floor}
 
 -- an order, as the model has it
 abbrev pub order : {O : Type 0} → Ordering O → O → Order

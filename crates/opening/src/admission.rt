@@ -6,10 +6,10 @@ ghost use Rattle.register.specs.Tables.{book-of};
 ghost use Rattle.model.specs.Opening.{opening, later-tests};
 ghost use Rattle.opening.specs.Admission.{made, admitted};
 ghost use Rattle.opening.specs.Tests.{order};
+use crate::checks;
+use crate::checks::CertificateTest;
 use crate::making;
 use crate::table::Table;
-use crate::tests;
-use crate::tests::CertificateTest;
 use model::seat::Seat;
 use model::sheet::Sheet;
 use orders::order::Order;
@@ -40,20 +40,20 @@ fn test<M: Order, G: Order, S: Store>(
 {
     let certificates = register.certificates();
     Refusal::Numbers.unless(numbers::are_sound(register))?;
-    Refusal::NoClass.unless(tests::are_all_classed(marks, grades, register, floor))?;
-    Refusal::Range.unless(tests::certificates_pass(
+    Refusal::NoClass.unless(checks::are_all_classed(marks, grades, register, floor))?;
+    Refusal::Range.unless(checks::certificates_pass(
         marks,
         grades,
         CertificateTest::Ranges,
         certificates,
     ))?;
-    Refusal::UnderFloor.unless(tests::certificates_pass(
+    Refusal::UnderFloor.unless(checks::certificates_pass(
         marks,
         grades,
         CertificateTest::Floor(floor),
         certificates,
     ))?;
-    Refusal::OtherStore.unless(tests::sizes_agree(store, register.entries()))
+    Refusal::OtherStore.unless(checks::sizes_agree(store, register.entries()))
 }
 
 // The tables for a closed vault over the store, if an opening with this register and this floor is accepted.

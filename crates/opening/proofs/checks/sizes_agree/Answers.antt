@@ -3,7 +3,7 @@ use mathlib.Core.Bool.{true, false}
 use native.Mathlib.Omega.{arith}
 use Rattle.std.proofs.shelf.Tests.{eq-eqb, ne-eqb}
 use Rattle.opening.proofs.Sizes.{other-count, size-here, sizes-end}
-use Rattle.opening.proofs.tests.sizes_agree.Needs as need
+use Rattle.opening.proofs.checks.sizes_agree.Needs as need
 
 pub returns-then-count-entries : need.returns-then-count-entries
 returns-then-count-entries g c =

@@ -1,7 +1,7 @@
 use mathlib.Core.Path.{_≡_}
 use lib.ListN.{drop}
 use Rattle.model.specs.Opening.{same-sizes}
-use Rattle.opening.proofs.tests.sizes_agree.Given as given
+use Rattle.opening.proofs.checks.sizes_agree.Given as given
 
 -- what is left decides
 abbrev pub Inv-loop-k : given.InvT-loop-k

@@ -3,7 +3,7 @@ use lib.ListN.{drop}
 use Rattle.std.specs.shelf.Lawful.{all-pass}
 use Rattle.model.specs.Opening.{entry-classed}
 use Rattle.opening.specs.Tests.{order}
-use Rattle.opening.proofs.tests.entries_classed.Given as given
+use Rattle.opening.proofs.checks.entries_classed.Given as given
 
 -- what is left decides
 abbrev pub Inv-loop-e : given.InvT-loop-e

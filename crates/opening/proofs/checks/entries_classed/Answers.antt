@@ -5,7 +5,7 @@ use Rattle.register.specs.Certificates.{blank-entry}
 use Rattle.register.proofs.Passing.{pass-here, pass-end}
 use Rattle.model.specs.Opening.{entry-classed}
 use Rattle.opening.specs.Tests.{order}
-use Rattle.opening.proofs.tests.entries_classed.Needs as need
+use Rattle.opening.proofs.checks.entries_classed.Needs as need
 
 pub returns-then-not-is-classed : need.returns-then-not-is-classed
 returns-then-not-is-classed g c =

@@ -2,7 +2,7 @@ use mathlib.Core.Path.{_≡_}
 use lib.ListN.{drop}
 use Rattle.std.specs.shelf.Lawful.{all-pass}
 use Rattle.opening.specs.Tests.{order, passes}
-use Rattle.opening.proofs.tests.certificates_pass.Given as given
+use Rattle.opening.proofs.checks.certificates_pass.Given as given
 
 -- what is left decides
 abbrev pub Inv-loop-c : given.InvT-loop-c

@@ -5,7 +5,7 @@ use Rattle.register.specs.Certificates.{blank-certificate}
 use Rattle.register.specs.declared.certificate.Certificate.{Certificate}
 use Rattle.register.proofs.Passing.{pass-here, pass-end}
 use Rattle.opening.specs.Tests.{order, passes}
-use Rattle.opening.proofs.tests.certificates_pass.Needs as need
+use Rattle.opening.proofs.checks.certificates_pass.Needs as need
 
 pub returns-then-not-certificate-passes : need.returns-then-not-certificate-passes
 returns-then-not-certificate-passes g c =
