@@ -12,7 +12,7 @@ use Rattle.stores.specs.declared.store.Store.{Ghosts as Storage}
 use Rattle.refusals.specs.declared.refusal.Refusal.{Refusal}
 use Rattle.register.specs.Tables.{Book}
 use Rattle.model.specs.Calls.{Call}
-use Rattle.model.specs.Orders.{Order}
+use Rattle.model.specs.Orders.{Order, order}
 use Rattle.model.specs.States.{Policy, State}
 use Rattle.model.specs.Opening.{opening, fixed, started}
 use Rattle.asks.specs.Lines.{parsed}
@@ -22,7 +22,6 @@ use Rattle.asks.specs.declared.answer.Answer.the-variants.{Opened}
 use Rattle.vault.specs.Meaning.{policy, state, opening-of, answer-of, Left, Kept}
 use Rattle.vault.specs.declared.vault.Vault.{Vault}
 use Rattle.opening.specs.Tables.{rows-of}
-use Rattle.opening.specs.Tests.{order}
 use Rattle.dayrun.specs.Days.{ended, asks-of, asks-text, printed, opening-number, opened-policy, opened-state, day-text}
 use Rattle.dayrun.specs.Steps.{ask-text, ask-after}
 

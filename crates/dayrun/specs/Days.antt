@@ -17,7 +17,7 @@ use Rattle.model.specs.Calls.{Call}
 use Rattle.model.specs.States.{Policy, State}
 use Rattle.model.specs.Runs.{Turn, turns, reply-at}
 use Rattle.model.specs.Opening.{fixed, started}
-use Rattle.opening.specs.Tests.{order}
+use Rattle.model.specs.Orders.{order}
 use Rattle.asks.specs.Lines.{parsed}
 use Rattle.asks.specs.Replies.{text, line-text}
 use Rattle.asks.specs.Rows.{rows}

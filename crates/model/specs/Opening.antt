@@ -58,24 +58,19 @@ same-sizes [] (e ∷ es) = false
 same-sizes (c ∷ cs) [] = false
 same-sizes (c ∷ cs) (e ∷ es) = eqb (length c) (e .size) && same-sizes cs es
 
--- the tests of what a register says, each over the whole of it before the next begins
-abbrev pub later-tests : Order → Order → List (List ℕ) → Book → ℕ → List Test
-later-tests marks grades contents b floor =
-    on (not (numbers-sound b)) Numbers
-    ∷ on (not (all-classed marks grades b floor)) NoClass
-    ∷ on (not (all-pass (in-range marks grades) (b .certificates))) Range
-    ∷ on (not (all-pass (floored marks grades floor) (b .certificates))) UnderFloor
-    ∷ on (not (same-sizes contents (b .entries))) OtherStore ∷ []
-
 module _ (marks grades : Order) (bs : List ℕ) (floor : ℕ) (contents : List (List ℕ)) where
-  -- an open vault, under six bytes, the counts, the exact length, and then what the register says
+  -- each test goes over the whole register before the next begins
   abbrev pub opening-tests : (already : Bool) → List Test
   opening-tests already =
       on already AlreadyOpen
       ∷ on (ltb (length bs) 6) RegisterLength
       ∷ on (not (within-limits (counts-of bs))) Counts
       ∷ on (not (eqb (length bs) (whole-length (counts-of bs)))) RegisterLength
-      ∷ later-tests marks grades contents (decoded bs) floor
+      ∷ on (not (numbers-sound (decoded bs))) Numbers
+      ∷ on (not (all-classed marks grades (decoded bs) floor)) NoClass
+      ∷ on (not (all-pass (in-range marks grades) (decoded bs .certificates))) Range
+      ∷ on (not (all-pass (floored marks grades floor) (decoded bs .certificates))) UnderFloor
+      ∷ on (not (same-sizes contents (decoded bs .entries))) OtherStore ∷ []
 
   -- what the register says, or the first refusal that fits
   abbrev pub opening : (already : Bool) → Result Book Refusal

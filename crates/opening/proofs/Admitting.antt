@@ -11,7 +11,8 @@ use Rattle.refusals.proofs.Testing.{checked-is, checked-past, checked-stop}
 use Rattle.register.specs.Layout.{form-tests, reading, decoded}
 use Rattle.register.specs.Tables.{Book}
 use Rattle.model.specs.Orders.{Order}
-use Rattle.model.specs.Opening.{opening, later-tests}
+use Rattle.model.specs.Opening.{opening}
+use Rattle.opening.specs.Tests.{later-tests}
 
 -- the same tests, with another value
 other-stop : {A B : Type 0} (ts : List Test) (a : A) (b : B) (e : Refusal) → Err e ≡ checked ts b → Err e ≡ checked ts a

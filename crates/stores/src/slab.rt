@@ -15,12 +15,17 @@ mod span;
 
 pub use self::calls::SlabStore;
 
+// The limits of a slab: its sheets, and the bytes of one.
+const MOST_SHEETS: usize = 64;
+
+const MOST_BYTES: u32 = 4096;
+
 #[derive(Drop)]
 pub struct Slab {
     memory: Vec<u8>,
     // How many sheets there are; their spans stand at the front of the table, each start beside its size, so that no call sums sizes.
     count: u16,
-    spans: [Span; 64],
+    spans: [Span; MOST_SHEETS],
     ghost table: { length spans ≡ 64 },
     ghost few: { count ≤ 64 },
     ghost packed: { placed 0 (take count spans) ≡ true },

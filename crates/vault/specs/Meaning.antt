@@ -16,7 +16,7 @@ use Rattle.model.specs.States.{Policy, State, sizes-of}
 use Rattle.model.specs.Runs.{final}
 use Rattle.model.specs.Opening.{opening, first-sheets, first-seats}
 use Rattle.opening.specs.Tables.{rows-of}
-use Rattle.opening.specs.Tests.{order}
+use Rattle.model.specs.Orders.{order}
 use Rattle.vault.specs.declared.vault.Vault.{Vault}
 
 -- what the opening fixed, with the meaning of the two orders

@@ -7,6 +7,8 @@ ghost use Rattle.std.specs.Of.Vec.{vec-items};
 ghost use Rattle.std.specs.shelf.Lists.{sum};
 ghost use Rattle.stores.specs.Limits.{within-limits};
 ghost use Rattle.stores.specs.Slabs.{made-sheets, slab-check, slab-memory, slab-sheets};
+use crate::slab::MOST_BYTES;
+use crate::slab::MOST_SHEETS;
 use crate::slab::Slab;
 use crate::slab::span::Span;
 use crate::slab::span::end_to_end;
@@ -16,14 +18,14 @@ use refusals::refusal::Refusal;
 fn allowed(size: u32) -> bool
     ensures { λ r. ⌜ r ≡ leb size 4096 ⌝ }
 {
-    size <= 4096
+    size <= MOST_BYTES
 }
 
 // Whether there are few enough sheets, none of them too large.
 fn within(sizes: &[u32]) -> bool
     ensures { λ r. ⌜ r ≡ within-limits (now (sizes .entry)) ⌝ }
 {
-    if sizes.len() > 64 {
+    if sizes.len() > MOST_SHEETS {
         return false;
     }
     for size in sizes {
@@ -69,7 +71,7 @@ impl Slab {
             return Slab {
                 memory,
                 count: 0,
-                spans: [Span::NONE; 64],
+                spans: [Span::NONE; MOST_SHEETS],
             };
         }
         Slab {

@@ -9,6 +9,7 @@ ghost use Rattle.refusals.specs.Refusals.{checked, on};
 ghost use Rattle.refusals.specs.declared.refusal.Refusal.the-variants.{PastEnd};
 ghost use Rattle.stores.specs.Limits.{within-limits};
 ghost use Rattle.stores.specs.Spans.{placed, sizes-in};
+use crate::slab::MOST_SHEETS;
 use refusals::refusal::Refusal;
 
 // A sheet has the `size` bytes of the memory from `start` on.
@@ -34,12 +35,12 @@ impl Span {
 }
 
 // The spans of sheets of these sizes that stand end to end, at the front of a table.
-pub fn end_to_end(sizes: &[u32]) -> [Span; 64]
+pub fn end_to_end(sizes: &[u32]) -> [Span; MOST_SHEETS]
     requires { ⌜ within-limits (now sizes) ≡ true ⌝ }
     ensures sizes { λ r. ⌜ sizes-in (take (length (now (sizes .entry))) r) ≡ now (sizes .entry) ⌝ }
     ensures placed { λ r. ⌜ placed 0 (take (length (now (sizes .entry))) r) ≡ true ⌝ }
 {
-    let mut spans = [Span::NONE; 64];
+    let mut spans = [Span::NONE; MOST_SHEETS];
     let mut start = 0;
     for (i, size) in sizes.iter().enumerate() {
         spans[i] = Span { start, size: *size };

@@ -5,7 +5,7 @@ use Rattle.register.specs.Tables.{book-of}
 use Rattle.model.specs.Opening.{first-sheets}
 use Rattle.opening.specs.Admission.{made, admitted}
 use Rattle.opening.specs.Tables.{rows-of}
-use Rattle.opening.specs.Tests.{order}
+use Rattle.model.specs.Orders.{order}
 use Rattle.opening.proofs.Admitting.{misformed, refused, accepted}
 use Rattle.opening.proofs.admission.admit.Needs as need
 

@@ -4,7 +4,8 @@ use native.Mathlib.Omega.{arith}
 use Rattle.register.specs.Certificates.{blank-certificate}
 use Rattle.register.specs.declared.certificate.Certificate.{Certificate}
 use Rattle.register.proofs.Passing.{pass-here, pass-end}
-use Rattle.opening.specs.Tests.{order, passes}
+use Rattle.opening.specs.Tests.{passes}
+use Rattle.model.specs.Orders.{order}
 use Rattle.opening.proofs.checks.certificates_pass.Needs as need
 
 pub returns-then-not-certificate-passes : need.returns-then-not-certificate-passes

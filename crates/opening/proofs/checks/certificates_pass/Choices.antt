@@ -1,7 +1,8 @@
 use mathlib.Core.Path.{_≡_}
 use lib.ListN.{drop}
 use Rattle.std.specs.shelf.Lawful.{all-pass}
-use Rattle.opening.specs.Tests.{order, passes}
+use Rattle.opening.specs.Tests.{passes}
+use Rattle.model.specs.Orders.{order}
 use Rattle.opening.proofs.checks.certificates_pass.Given as given
 
 -- what is left decides

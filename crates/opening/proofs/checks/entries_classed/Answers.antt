@@ -4,7 +4,7 @@ use native.Mathlib.Omega.{arith}
 use Rattle.register.specs.Certificates.{blank-entry}
 use Rattle.register.proofs.Passing.{pass-here, pass-end}
 use Rattle.model.specs.Opening.{entry-classed}
-use Rattle.opening.specs.Tests.{order}
+use Rattle.model.specs.Orders.{order}
 use Rattle.opening.proofs.checks.entries_classed.Needs as need
 
 pub returns-then-not-is-classed : need.returns-then-not-is-classed

@@ -2,7 +2,7 @@ use mathlib.Core.Path.{_≡_}
 use lib.ListN.{drop}
 use Rattle.std.specs.shelf.Lawful.{all-pass}
 use Rattle.model.specs.Opening.{entry-classed}
-use Rattle.opening.specs.Tests.{order}
+use Rattle.model.specs.Orders.{order}
 use Rattle.opening.proofs.checks.entries_classed.Given as given
 
 -- what is left decides

@@ -4,7 +4,7 @@ use Rattle.std.specs.declared.result.Result.the-variants.{Ok, Err}
 use Rattle.std.proofs.shelf.Results.{err-from-errBy}
 use Rattle.model.specs.Opening.{opening}
 use Rattle.opening.specs.Tables.{rows-of}
-use Rattle.opening.specs.Tests.{order}
+use Rattle.model.specs.Orders.{order}
 use Rattle.vault.specs.Meaning.{answer-of}
 use Rattle.vault.proofs.Leaving.{accepted, refused, law-holds, sizes-hold, left-as, not-both}
 use Rattle.vault.proofs.vault.Vault.open.Needs as need
