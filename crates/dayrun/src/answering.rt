@@ -4,7 +4,6 @@ ghost use mathlib.Core.Path.{_≡_};
 ghost use Prim.Native.Nat.{_≤_};
 ghost use Rattle.std.specs.Of.String.{string-bytes};
 ghost use Rattle.std.specs.Vec.{made};
-ghost use Rattle.model.specs.Calls.{read as reading, run as running};
 ghost use Rattle.model.specs.Rules.{after};
 ghost use Rattle.asks.specs.Lines.{buffer-size, call, parsed};
 ghost use Rattle.asks.specs.Replies.{line-text};
@@ -68,40 +67,6 @@ fn print_told(out: &mut String, said: Result<(u16, u64), Refusal>) -> fmt::Resul
     }
 }
 
-// Makes a read, and adds its answer.
-fn read<M: Order, G: Order, S: Store>(
-    vault: &mut Vault<M, G, S>,
-    out: &mut String,
-    seat: u16,
-    sheet: u16,
-    place: u32,
-    buffer: &mut [u8],
-) -> fmt::Result
-    ensures bytes { λ r. ⌜ made r (λ _. string-bytes (now (out .exit)) ≡ string-bytes (now (out .entry)) ++ ended (call-text (policy M·Order G·Order (now (vault .entry))) (state S·Store (now (vault .entry))) (reading seat sheet place (now (buffer .entry))))) ⌝ }
-    ensures after { λ _. ⌜ state S·Store (now (vault .exit)) ≡ after (policy M·Order G·Order (now (vault .entry))) (state S·Store (now (vault .entry))) (reading seat sheet place (now (buffer .entry))) ⌝ }
-    ensures kept { λ _. ⌜ Kept (now (vault .entry)) (now (vault .exit)) ⌝ }
-{
-    let said = vault.read(seat, sheet, place, buffer);
-    print_filled(out, said, buffer)
-}
-
-// Makes a run, and adds its answer.
-fn run<M: Order, G: Order, S: Store>(
-    vault: &mut Vault<M, G, S>,
-    out: &mut String,
-    seat: u16,
-    sheet: u16,
-    place: u32,
-    buffer: &mut [u8],
-) -> fmt::Result
-    ensures bytes { λ r. ⌜ made r (λ _. string-bytes (now (out .exit)) ≡ string-bytes (now (out .entry)) ++ ended (call-text (policy M·Order G·Order (now (vault .entry))) (state S·Store (now (vault .entry))) (running seat sheet place (now (buffer .entry))))) ⌝ }
-    ensures after { λ _. ⌜ state S·Store (now (vault .exit)) ≡ after (policy M·Order G·Order (now (vault .entry))) (state S·Store (now (vault .entry))) (running seat sheet place (now (buffer .entry))) ⌝ }
-    ensures kept { λ _. ⌜ Kept (now (vault .entry)) (now (vault .exit)) ⌝ }
-{
-    let said = vault.run(seat, sheet, place, buffer);
-    print_filled(out, said, buffer)
-}
-
 // Makes the call that is asked for, and adds its answer.
 fn answer_ask<M: Order, G: Order, S: Store>(
     vault: &mut Vault<M, G, S>,
@@ -120,14 +85,11 @@ fn answer_ask<M: Order, G: Order, S: Store>(
             sheet,
             place,
             size,
-        } => read(
-            vault,
-            out,
-            seat,
-            sheet,
-            place,
-            &mut buffer[0..size as usize],
-        ),
+        } => {
+            let part = &mut buffer[0..size as usize];
+            let said = vault.read(seat, sheet, place, part);
+            print_filled(out, said, part)
+        }
         Ask::Write {
             seat,
             sheet,
@@ -139,14 +101,11 @@ fn answer_ask<M: Order, G: Order, S: Store>(
             sheet,
             place,
             size,
-        } => run(
-            vault,
-            out,
-            seat,
-            sheet,
-            place,
-            &mut buffer[0..size as usize],
-        ),
+        } => {
+            let part = &mut buffer[0..size as usize];
+            let said = vault.run(seat, sheet, place, part);
+            print_filled(out, said, part)
+        }
         Ask::Hand { seat, sheet, slip } => print_done(out, vault.hand(seat, sheet, slip)),
         Ask::Tell { seat } => print_told(out, vault.tell(seat)),
     }
