@@ -9,7 +9,7 @@ use Rattle.refusals.specs.Refusals.{Test, on, checked}
 use Rattle.refusals.specs.declared.refusal.Refusal.{Refusal}
 use Rattle.refusals.specs.declared.refusal.Refusal.the-variants.{Closed, NoSeat, NoSheet}
 use Rattle.model.specs.States.{Policy, State, seat-at, blank-seat, blank-sheet}
-use Rattle.model.specs.Rules.{seat-tests, read-rules, write-rules, run-rules}
+use Rattle.model.specs.Rules.{seat-tests, read-rules, write-rules, run-rules, hand-rules}
 use Rattle.model.specs.declared.seat.Seat.{Seat}
 use Rattle.model.specs.declared.sheet.Sheet.{Sheet}
 use Rattle.opening.specs.Tables.{rows-of}
@@ -23,7 +23,7 @@ caller-of v i = checked (on (not (v .«open»)) Closed ∷ on (leb (length (rows
 abbrev pub sheet-of : {M G S : Type 0} → Vault M G S → ℕ → Result Sheet Refusal
 sheet-of v k = checked (on (leb (length (rows-of (v .sheets))) k) NoSheet ∷ []) (getD (rows-of (v .sheets)) k blank-sheet)
 
--- the vault's own tests of a call that moves bytes; the store's follow
+-- the vault's own tests of a call; where bytes are moved, the store's follow
 module _ (p : Policy) (s : State) (i k : ℕ) where
   abbrev pub read-front : List Test
   read-front = seat-tests p s i ++ read-rules p (seat-at s i .certificate) k
@@ -33,3 +33,6 @@ module _ (p : Policy) (s : State) (i k : ℕ) where
 
   abbrev pub run-front : List Test
   run-front = seat-tests p s i ++ run-rules p (seat-at s i .certificate) k
+
+  abbrev pub hand-front : List Test
+  hand-front = seat-tests p s i ++ hand-rules p (seat-at s i .certificate) k

@@ -7,8 +7,8 @@ ghost use Rattle.model.specs.Rules.{answer, after, reply};
 ghost use Rattle.model.specs.TwoRuns.{Law};
 ghost use Rattle.vault.specs.Meaning.{policy, state, told, done, opening-of, answer-of, Left, Closed, Kept, Sizes-stay};
 ghost use Rattle.refusals.specs.Refusals.{checked};
-ghost use Rattle.model.specs.States.{seat-at};
-ghost use Rattle.vault.specs.Parts.{caller-of, sheet-of, read-front, write-front, run-front};
+ghost use Rattle.model.specs.States.{seat-at, held, certificate-of};
+ghost use Rattle.vault.specs.Parts.{caller-of, sheet-of, read-front, write-front, run-front, hand-front};
 use model::seat::BLANK_SEAT;
 use model::seat::Seat;
 use model::sheet::BLANK_SHEET;
@@ -17,6 +17,7 @@ use opening::admission;
 use opening::table::Table;
 use orders::order::Order;
 use refusals::refusal::Refusal;
+use register::certificate::Certificate;
 use register::tables::MOST_SEATS;
 use register::tables::MOST_SHEETS;
 use stores::store::Store;
@@ -124,6 +125,28 @@ impl<M: Order, G: Order, S: Store> Vault<M, G, S> {
         Ok(caller)
     }
 
+    // The certificate of the program, if the seat may be handed over to it, by marks and grades.
+    fn may_hand(&self, seat: u16, sheet: u16) -> Result<Certificate, Refusal>
+        ensures { λ r. ⌜ r ≡ checked (hand-front (policy M·Order G·Order (now (self .entry))) (state S·Store (now (self .entry))) seat sheet) (held (certificate-of (policy M·Order G·Order (now (self .entry))) sheet)) ⌝ }
+    {
+        let holder = self.caller(seat)?.certificate;
+        let target = self.sheet(sheet)?;
+        let Some(next) = target.certificate else {
+            return Err(Refusal::NotCertified);
+        };
+        Refusal::MarkRule.unless(
+            self.marks
+                .at_or_below(target.label.mark, holder.reading.mark)
+                && self.marks
+                    .at_or_below(holder.writing.mark, next.reading.mark),
+        )?;
+        Refusal::GradeRule.unless(
+            self.grades
+                .at_or_below(next.reading.grade, holder.writing.grade),
+        )?;
+        Ok(next)
+    }
+
     // The seat's running program and slip.
     pub fn tell(&self, seat: u16) -> Result<(u16, u64), Refusal>
         ensures { λ r. ⌜ told r ≡ answer (policy M·Order G·Order (now (self .entry))) (state S·Store (now (self .entry))) (telling seat) ⌝ }
@@ -192,21 +215,7 @@ impl<M: Order, G: Order, S: Store> Vault<M, G, S> {
         ensures kept { λ _. ⌜ Kept (now (self .entry)) (now (self .exit)) ⌝ }
         ensures store { λ _. ⌜ now (self .exit) .store ≡ now (self .entry) .store ⌝ }
     {
-        let holder = self.caller(seat)?.certificate;
-        let target = self.sheet(sheet)?;
-        let Some(next) = target.certificate else {
-            return Err(Refusal::NotCertified);
-        };
-        Refusal::MarkRule.unless(
-            self.marks
-                .at_or_below(target.label.mark, holder.reading.mark)
-                && self.marks
-                    .at_or_below(holder.writing.mark, next.reading.mark),
-        )?;
-        Refusal::GradeRule.unless(
-            self.grades
-                .at_or_below(next.reading.grade, holder.writing.grade),
-        )?;
+        let next = self.may_hand(seat, sheet)?;
         self.seats.put(
             seat,
             Seat {
