@@ -118,10 +118,15 @@ impl<M: Order, G: Order, S: Store> Vault<M, G, S> {
         ensures { λ r. ⌜ r ≡ checked (run-front (policy M·Order G·Order (now (self .entry))) (state S·Store (now (self .entry))) seat sheet) (seat-at (state S·Store (now (self .entry))) seat) ⌝ }
     {
         let caller = self.caller(seat)?;
-        let holder = caller.certificate;
-        let label = self.sheet(sheet)?.label;
-        Refusal::MarkRule.unless(self.marks.at_or_below(label.mark, holder.reading.mark))?;
-        Refusal::GradeRule.unless(self.grades.at_or_below(holder.writing.grade, label.grade))?;
+        let target = self.sheet(sheet)?.label;
+        Refusal::MarkRule.unless(
+            self.marks
+                .at_or_below(target.mark, caller.certificate.reading.mark),
+        )?;
+        Refusal::GradeRule.unless(
+            self.grades
+                .at_or_below(caller.certificate.writing.grade, target.grade),
+        )?;
         Ok(caller)
     }
 
