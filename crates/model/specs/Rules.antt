@@ -23,6 +23,7 @@ abbrev pub grade-rule : Bool → Test
 grade-rule holds = on (not holds) GradeRule
 
 module _ (p : Policy) where
+  -- the register has no sheet k
   abbrev pub no-sheet : ℕ → Test
   no-sheet k = on (leb (length (p .sheets)) k) NoSheet
 
@@ -35,12 +36,14 @@ module _ (p : Policy) where
 
   -- the rules of each kind of call, in the order in which they are tested, for a seat under the certificate c
   module _ (c : Certificate) where
+    -- the reading mark is at or above the sheet's mark, the reading grade at or below the sheet's grade
     abbrev pub read-rules : (sheet : ℕ) → List Test
     read-rules k =
         no-sheet k
         ∷ mark-rule (mark-below (label-of p k .mark) (c .reading .mark))
         ∷ grade-rule (grade-below (c .reading .grade) (label-of p k .grade)) ∷ []
 
+    -- no certified program; the writing mark is at or below the sheet's mark, the writing grade at or above the sheet's grade
     abbrev pub write-rules : (sheet : ℕ) → List Test
     write-rules k =
         no-sheet k
@@ -48,12 +51,15 @@ module _ (p : Policy) where
         ∷ mark-rule (mark-below (c .writing .mark) (label-of p k .mark))
         ∷ grade-rule (grade-below (label-of p k .grade) (c .writing .grade)) ∷ []
 
+    -- the reading mark is at or above the sheet's mark, the writing grade at or below the sheet's grade
     abbrev pub run-rules : (sheet : ℕ) → List Test
     run-rules k =
         no-sheet k
         ∷ mark-rule (mark-below (label-of p k .mark) (c .reading .mark))
         ∷ grade-rule (grade-below (c .writing .grade) (label-of p k .grade)) ∷ []
 
+    -- a certified program; the reading mark is at or above the sheet's mark, the writing mark at or below the new reading mark,
+    -- the writing grade at or above the new reading grade
     abbrev pub hand-rules : (sheet : ℕ) → List Test
     hand-rules k = let next = held (certificate-of p k) in
         no-sheet k
@@ -90,6 +96,7 @@ module _ (p : Policy) (s : State) where
   abbrev pub answer : Call → Answer
   answer c = checked (tests c) (numbers (seat-at s (seat-of c)) c)
 
+  -- whether it is answered, and not refused
   abbrev pub accepted : Call → Bool
   accepted c = isOk (answer c)
 

@@ -27,6 +27,6 @@ pub impl Order for Ladder as LadderOrder {
     }
 
     fn at_or_below(&self, a: u64, b: u64) -> bool {
-        self.is_class(a) && self.is_class(b) && a <= b
+        1 <= a && a <= b && b <= u64::from(self.rungs)
     }
 }
