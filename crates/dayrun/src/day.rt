@@ -60,14 +60,13 @@ fn answer_all<M: Order, G: Order, S: Store>(
 // The text of a day: the opening's number, and then one line for each line of the input. Only want of memory fails.
 pub fn text<M: Order + Drop, G: Order + Drop, S: Store + Drop>(
     heap: Global,
-    vault: Vault<M, G, S>,
+    mut vault: Vault<M, G, S>,
     register: &[u8],
     floor: u64,
     input: &[u8],
 ) -> Result<String, fmt::Error>
     ensures { λ r. ⌜ made r (λ out. string-bytes out ≡ day-text M·Order G·Order S·Store vault (now (register .entry)) floor (now (input .entry))) ⌝ }
 {
-    let mut vault = vault;
     let mut out = String::new(heap);
     open(&mut vault, &mut out, register, floor)?;
     answer_all(&mut vault, &mut out, input)?;
