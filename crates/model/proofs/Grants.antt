@@ -1,7 +1,7 @@
 -- What an accepted call tells: which rules held, that its seat and its sheet are there, and that its bytes fit.
 use mathlib.Core.Path.{_≡_}
 use mathlib.Core.List.{List}
-use mathlib.Core.Bool.{true, false}
+use mathlib.Core.Bool.{Bool, true, false}
 use Prim.Native.Nat.{ℕ, _+_, _<_, _≤_}
 use lib.ListN.{length}
 use Rattle.std.specs.Options.{isSome}
@@ -12,7 +12,14 @@ use Rattle.refusals.proofs.Testing.{none-fits}
 use Rattle.register.specs.declared.certificate.Certificate.{Certificate}
 use Rattle.model.specs.Calls.{Call, read, write, run, hand, tell, seat-of}
 use Rattle.model.specs.States.{Policy, State, held, label-of, certificate-of, seat-at, bytes-of}
-use Rattle.model.specs.Rules.{mark-below, grade-below, kind-tests, tests, numbers, answer, accepted}
+use Rattle.model.specs.Rules.{kind-tests, tests, numbers, answer, accepted}
+
+-- the first mark or grade is at or below the second
+abbrev pub mark-below : Policy → ℕ → ℕ → Bool
+mark-below p a b = p .marks .below a b
+
+abbrev pub grade-below : Policy → ℕ → ℕ → Bool
+grade-below p a b = p .grades .below a b
 
 -- the calls that fill a buffer, by the grade that is set against the sheet's
 pub record Seen (p : Policy) (c : Certificate) (grade k : ℕ) : Type 0 where

@@ -24,12 +24,12 @@ use Rattle.register.specs.declared.certificate.Certificate.{Certificate}
 use Rattle.model.specs.Orders.{Lawful}
 use Rattle.model.specs.Calls.{Call, read, write, run, hand, tell, seat-of, brought}
 use Rattle.model.specs.States.{Policy, State, held, label-of, certificate-of, blank-seat, seat-at, bytes-of, sizes-of, with-seat, with-bytes}
-use Rattle.model.specs.Rules.{mark-below, grade-below, read-rules, write-rules, run-rules, kind-tests, tests, numbers, answer, accepted, effect, filled, after, reply}
+use Rattle.model.specs.Rules.{read-rules, write-rules, run-rules, kind-tests, tests, numbers, answer, accepted, effect, filled, after, reply}
 use Rattle.model.specs.Runs.{Turn, turns, reply-at, final}
 use Rattle.model.specs.TwoRuns.{holder, in-view, sheet-in-view, seat-in-view, program-in-view, reaches, release, counts, counted, kept, replies, releases, Same-sheets, Alike, Floored}
 use Rattle.model.specs.declared.seat.Seat.{Seat}
 use Rattle.refusals.proofs.Testing.{checked-value}
-use Rattle.model.proofs.Grants.{Seen, seated, read-grants, run-grants, write-grants, hand-grants}
+use Rattle.model.proofs.Grants.{mark-below, grade-below, Seen, seated, read-grants, run-grants, write-grants, hand-grants}
 use Rattle.model.proofs.Steps.{alike-refl, alike-sym, alike-trans, hidden-seat, same-seat, hidden-bytes, same-bytes}
 
 -- what the opening tested of a certificate

@@ -1,71 +1,43 @@
 -- What each call of a seat is refused for, what it answers, what it fills the buffer with, and what it changes.
 use mathlib.Core.List.{List, [], _∷_, _++_}
-use mathlib.Core.Bool.{Bool, not, _&&_, cond}
+use mathlib.Core.Bool.{Bool, not, cond}
 use Prim.Native.Nat.{ℕ}
 use lib.Dec.{leb}
 use lib.ListN.{length, take, drop}
 use Rattle.std.specs.Options.{isSome}
 use Rattle.std.specs.Results.{isOk}
 use Rattle.refusals.specs.Refusals.{Test, on, checked}
-use Rattle.refusals.specs.declared.refusal.Refusal.the-variants.{Closed, NoSeat, NoSheet, MarkRule, GradeRule, Certified, NotCertified}
+use Rattle.refusals.specs.declared.refusal.Refusal.the-variants.{Closed, NoSeat, NoSheet, Certified, NotCertified}
 use Rattle.stores.specs.Sheets.{reach-tests}
 use Rattle.stores.specs.Splices.{spliced}
 use Rattle.register.specs.declared.certificate.Certificate.{Certificate}
+use Rattle.model.specs.Access.{read-access, write-access, run-access, hand-access}
 use Rattle.model.specs.Calls.{Call, Answer, Reply, read, write, run, hand, tell, seat-of, brought}
 use Rattle.model.specs.States.{Policy, State, held, label-of, certificate-of, seat-at, bytes-of, with-seat, with-bytes}
 use Rattle.model.specs.declared.seat.Seat.{Seat}
-
--- refused where the rule does not hold
-abbrev pub mark-rule : Bool → Test
-mark-rule holds = on (not holds) MarkRule
-
-abbrev pub grade-rule : Bool → Test
-grade-rule holds = on (not holds) GradeRule
 
 module _ (p : Policy) where
   -- the register has no sheet k
   abbrev pub no-sheet : ℕ → Test
   no-sheet k = on (leb (length (p .sheets)) k) NoSheet
 
-  -- the first mark or grade is at or below the second
-  abbrev pub mark-below : ℕ → ℕ → Bool
-  mark-below a b = p .marks .below a b
-
-  abbrev pub grade-below : ℕ → ℕ → Bool
-  grade-below a b = p .grades .below a b
-
-  -- the rules of each kind of call, in the order in which they are tested, for a seat under the certificate c
+  -- what is tested of sheet k, in the order in which it is tested, for a seat under the certificate c: that it is there,
+  -- that it is a certified program or none, and the rules of access
   module _ (c : Certificate) where
-    -- the reading mark is at or above the sheet's mark, the reading grade at or below the sheet's grade
     abbrev pub read-rules : (sheet : ℕ) → List Test
-    read-rules k =
-        no-sheet k
-        ∷ mark-rule (mark-below (label-of p k .mark) (c .reading .mark))
-        ∷ grade-rule (grade-below (c .reading .grade) (label-of p k .grade)) ∷ []
+    read-rules k = no-sheet k ∷ read-access (p .marks) (p .grades) c (label-of p k)
 
-    -- no certified program; the writing mark is at or below the sheet's mark, the writing grade at or above the sheet's grade
     abbrev pub write-rules : (sheet : ℕ) → List Test
-    write-rules k =
-        no-sheet k
-        ∷ on (isSome (certificate-of p k)) Certified
-        ∷ mark-rule (mark-below (c .writing .mark) (label-of p k .mark))
-        ∷ grade-rule (grade-below (label-of p k .grade) (c .writing .grade)) ∷ []
+    write-rules k = no-sheet k ∷ on (isSome (certificate-of p k)) Certified ∷ write-access (p .marks) (p .grades) c (label-of p k)
 
-    -- the reading mark is at or above the sheet's mark, the writing grade at or below the sheet's grade
     abbrev pub run-rules : (sheet : ℕ) → List Test
-    run-rules k =
-        no-sheet k
-        ∷ mark-rule (mark-below (label-of p k .mark) (c .reading .mark))
-        ∷ grade-rule (grade-below (c .writing .grade) (label-of p k .grade)) ∷ []
+    run-rules k = no-sheet k ∷ run-access (p .marks) (p .grades) c (label-of p k)
 
-    -- a certified program; the reading mark is at or above the sheet's mark, the writing mark at or below the new reading mark,
-    -- the writing grade at or above the new reading grade
     abbrev pub hand-rules : (sheet : ℕ) → List Test
-    hand-rules k = let next = held (certificate-of p k) in
+    hand-rules k =
         no-sheet k
         ∷ on (not (isSome (certificate-of p k))) NotCertified
-        ∷ mark-rule (mark-below (label-of p k .mark) (c .reading .mark) && mark-below (c .writing .mark) (next .reading .mark))
-        ∷ grade-rule (grade-below (next .reading .grade) (c .writing .grade)) ∷ []
+        ∷ hand-access (p .marks) (p .grades) c (label-of p k) (held (certificate-of p k))
 
   -- the tests of a call by its kind: its rules, and then, where bytes are moved, the store's own tests
   abbrev pub kind-tests : List (List ℕ) → Certificate → Call → List Test

@@ -1,2 +1,2 @@
-// The vault: sheets under marks and grades, and the calls of its seats. The rules of access are asked here and nowhere else.
+// The vault: sheets under marks and grades, and the calls of its seats.
 pub mod vault;

@@ -1,4 +1,4 @@
-// The vault: its opening, and the five calls of a seat. The rules of access are asked here and nowhere else.
+// The vault: its opening, and the five calls of a seat.
 
 ghost use mathlib.Core.Path.{_≡_};
 ghost use Rattle.std.specs.declared.result.Result.the-variants.{Ok};
@@ -86,69 +86,45 @@ impl<M: Order, G: Order, S: Store> Vault<M, G, S> {
         self.sheets.get(sheet).ok_or(Refusal::NoSheet)
     }
 
-    // Whether the seat may read the sheet, by marks and grades.
+    // Whether the seat may read the sheet.
     fn may_read(&self, seat: u16, sheet: u16) -> Result<(), Refusal>
         ensures { λ r. ⌜ r ≡ checked (read-front (policy M·Order G·Order (now (self .entry))) (state S·Store (now (self .entry))) seat sheet) tt ⌝ }
     {
         let holder = self.caller(seat)?.certificate;
         let label = self.sheet(sheet)?.label;
-        Refusal::MarkRule.unless(self.marks.at_or_below(label.mark, holder.reading.mark))?;
-        Refusal::GradeRule.unless(self.grades.at_or_below(holder.reading.grade, label.grade))
+        access::may_read(&self.marks, &self.grades, holder, label)
     }
 
-    // Whether the seat may write the sheet, by marks and grades; a certified program is never written.
+    // Whether the seat may write the sheet; a certified program is never written.
     fn may_write(&self, seat: u16, sheet: u16) -> Result<(), Refusal>
         ensures { λ r. ⌜ r ≡ checked (write-front (policy M·Order G·Order (now (self .entry))) (state S·Store (now (self .entry))) seat sheet) tt ⌝ }
     {
         let holder = self.caller(seat)?.certificate;
         let target = self.sheet(sheet)?;
         Refusal::Certified.unless(target.certificate.is_none())?;
-        Refusal::MarkRule.unless(
-            self.marks
-                .at_or_below(holder.writing.mark, target.label.mark),
-        )?;
-        Refusal::GradeRule.unless(
-            self.grades
-                .at_or_below(target.label.grade, holder.writing.grade),
-        )
+        access::may_write(&self.marks, &self.grades, holder, target.label)
     }
 
-    // The record of the seat, if it may run the sheet, by marks and grades.
+    // The record of the seat, if it may run the sheet.
     fn may_run(&self, seat: u16, sheet: u16) -> Result<Seat, Refusal>
         ensures { λ r. ⌜ r ≡ checked (run-front (policy M·Order G·Order (now (self .entry))) (state S·Store (now (self .entry))) seat sheet) (seat-at (state S·Store (now (self .entry))) seat) ⌝ }
     {
         let caller = self.caller(seat)?;
-        let target = self.sheet(sheet)?.label;
-        Refusal::MarkRule.unless(
-            self.marks
-                .at_or_below(target.mark, caller.certificate.reading.mark),
-        )?;
-        Refusal::GradeRule.unless(
-            self.grades
-                .at_or_below(caller.certificate.writing.grade, target.grade),
-        )?;
+        let code = self.sheet(sheet)?.label;
+        access::may_run(&self.marks, &self.grades, caller.certificate, code)?;
         Ok(caller)
     }
 
-    // The certificate of the program, if the seat may be handed over to it, by marks and grades.
+    // The certificate of the program, if the seat may be handed over to it.
     fn may_hand(&self, seat: u16, sheet: u16) -> Result<Certificate, Refusal>
         ensures { λ r. ⌜ r ≡ checked (hand-front (policy M·Order G·Order (now (self .entry))) (state S·Store (now (self .entry))) seat sheet) (held (certificate-of (policy M·Order G·Order (now (self .entry))) sheet)) ⌝ }
     {
         let holder = self.caller(seat)?.certificate;
-        let target = self.sheet(sheet)?;
-        let Some(next) = target.certificate else {
+        let program = self.sheet(sheet)?;
+        let Some(next) = program.certificate else {
             return Err(Refusal::NotCertified);
         };
-        Refusal::MarkRule.unless(
-            self.marks
-                .at_or_below(target.label.mark, holder.reading.mark)
-                && self.marks
-                    .at_or_below(holder.writing.mark, next.reading.mark),
-        )?;
-        Refusal::GradeRule.unless(
-            self.grades
-                .at_or_below(next.reading.grade, holder.writing.grade),
-        )?;
+        access::may_hand(&self.marks, &self.grades, holder, program.label, next)?;
         Ok(next)
     }
 
