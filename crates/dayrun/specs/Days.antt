@@ -50,6 +50,7 @@ ended line = line ++ 10 ∷ []
 abbrev pub asks-text : Policy → State → List (Option Call) → List ℕ
 asks-text p s asks = joined ended (answers p asks (turns p s (calls-of asks)))
 
+-- what is printed for an input
 abbrev pub printed : Policy → State → List ℕ → List ℕ
 printed p s input = asks-text p s (asks-of input)
 
@@ -59,11 +60,12 @@ opening-number (Ok u) = 0
 opening-number (Err e) = number-of e
 
 module _ {M G S : Type 0} (m : Ordering M) (g : Ordering G) (s : Storage S) (v : Vault M G S) where
-  -- the policy and the state that an opening leaves
+  -- the policy that an opening leaves
   abbrev pub opened-policy : ℕ → Result Book Refusal → Policy
   opened-policy floor (Ok b) = fixed (order m (v .marks)) (order g (v .grades)) b floor
   opened-policy floor (Err e) = policy m g v
 
+  -- the seats and sheets that it leaves
   abbrev pub opened-state : Result Book Refusal → State
   opened-state (Ok b) = started b (s .sheets (v .store))
   opened-state (Err e) = state s v

@@ -42,6 +42,7 @@ marks = record { class = compartments.is-class; below = compartments.at-or-below
 abbrev pub grades : Order
 grades = record { class = ladder.is-rung 6; below = ladder.at-or-below 6 }
 
+-- the floor
 abbrev pub floor : ℕ
 floor = 5
 
@@ -67,6 +68,7 @@ encoded b =
     ++ (joined (λ e. eight (e .label .mark)) (b .entries) ++ (joined (λ c. eight (c .reading .mark) ++ eight (c .writing .mark)) (b .certificates)
     ++ (joined (λ e. eight (e .label .grade)) (b .entries) ++ joined (λ c. eight (c .reading .grade) ++ eight (c .writing .grade)) (b .certificates)))))))))
 
+-- the example's register
 abbrev pub register : List ℕ
 register = encoded book
 

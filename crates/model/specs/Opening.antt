@@ -29,9 +29,11 @@ module _ (marks grades : Order) where
   abbrev pub classed : Label → Bool
   classed l = marks .class (l .mark) && grades .class (l .grade)
 
+  -- the label of a sheet has classes
   abbrev pub entry-classed : Entry → Bool
   entry-classed e = classed (e .label)
 
+  -- both labels of a certificate have classes
   abbrev pub certificate-classed : Certificate → Bool
   certificate-classed c = classed (c .reading) && classed (c .writing)
 

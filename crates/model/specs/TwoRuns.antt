@@ -27,6 +27,7 @@ module _ (p : Policy) (v : Label) where
   abbrev pub in-view : Label → Bool
   in-view l = p .marks .below (l .mark) (v .mark) && p .grades .below (v .grade) (l .grade)
 
+  -- sheet k is there, and its label is in view
   abbrev pub sheet-in-view : ℕ → Bool
   sheet-in-view k = ltb k (length (p .sheets)) && in-view (label-of p k)
 
@@ -34,6 +35,7 @@ module _ (p : Policy) (v : Label) where
   abbrev pub seat-in-view : State → ℕ → Bool
   seat-in-view s i = ltb i (length (s .seats)) && in-view (seat-at s i .certificate .reading)
 
+  -- sheet k is a certified program, and it is in view
   abbrev pub program-in-view : ℕ → Bool
   program-in-view k = isSome (certificate-of p k) && in-view (held (certificate-of p k) .reading)
 
@@ -53,6 +55,7 @@ module _ (p : Policy) (v : Label) where
   abbrev pub counts : Turn → Bool
   counts t = seat-in-view (t .before) (seat-of (t .call)) || release t
 
+  -- the turns that are not struck, of a list of calls that begins in the state s
   abbrev pub counted : State → List Call → List Turn
   counted s cs = kept-by counts (turns p s cs)
 
@@ -64,6 +67,7 @@ module _ (p : Policy) (v : Label) where
   abbrev pub replies : State → List Call → List Reply
   replies s cs = map (reply-at p) (counted s cs)
 
+  -- the turns that are releases
   abbrev pub releases : State → List Call → List Turn
   releases s cs = kept-by release (turns p s cs)
 
