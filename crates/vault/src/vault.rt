@@ -176,16 +176,10 @@ impl<M: Order, G: Order, S: Store> Vault<M, G, S> {
         ensures kept { λ _. ⌜ Kept (now (self .entry)) (now (self .exit)) ⌝ }
         ensures store { λ _. ⌜ now (self .exit) .store ≡ now (self .entry) .store ⌝ }
     {
-        let caller = self.may_run(seat, sheet)?;
+        let mut caller = self.may_run(seat, sheet)?;
         self.store.read(sheet, place, buffer)?;
-        self.seats.put(
-            seat,
-            Seat {
-                certificate: caller.certificate,
-                program: sheet,
-                slip: caller.slip,
-            },
-        );
+        caller.program = sheet;
+        self.seats.put(seat, caller);
         Ok(())
     }
 

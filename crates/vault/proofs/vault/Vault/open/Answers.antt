@@ -1,5 +1,6 @@
 use mathlib.Core.Path.{_≡_, refl, sym, _∙_, ap}
 use mathlib.Core.Bool.{false}
+use borrow.Author.Needs.{needs}
 use Rattle.std.specs.declared.result.Result.the-variants.{Ok, Err}
 use Rattle.std.proofs.shelf.Results.{err-from-errBy}
 use Rattle.model.specs.Opening.{opening}
@@ -16,7 +17,8 @@ returns-in-Break-made g c =
     let p = err-from-errBy (c .from-residual .result) (c .from-residual .ensures .1) in
     let said = p .1 ∙ ap Err (p .2) in
     let o = opening (order (g .M·Order) (v .marks)) (order (g .G·Order) (v .grades)) (c .args .register .now) (c .args .floor) (g .S·Store .sheets (v .store)) in
-    let is : o (v .«open») ≡ Err e = ap o (c .if-self .left) ∙ refused (o false) e (c .in-Break-made .ensures tt) in
+    let closed : v .«open» ≡ false = search needs in
+    let is : o (v .«open») ≡ Err e = ap o closed ∙ refused (o false) e (c .in-Break-made .ensures tt) in
     record {
       value = said ∙ sym (ap answer-of is);
       after = left-as v v (c .args .floor) (o (v .«open»)) (Err e) is refl;
@@ -30,7 +32,8 @@ returns g c =
     let made = c .in-Continue-made .made in
     let o = opening (order (g .M·Order) (v .marks)) (order (g .G·Order) (v .grades)) (c .args .register .now) (c .args .floor) (g .S·Store .sheets (v .store)) in
     let a = accepted (o false) (rows-of (made .sheets)) (rows-of (made .seats)) (c .in-Continue-made .ensures tt) in
-    let is : o (v .«open») ≡ Ok (a .book) = ap o (c .if-self .left) ∙ a .is in
+    let closed : v .«open» ≡ false = search needs in
+    let is : o (v .«open») ≡ Ok (a .book) = ap o closed ∙ a .is in
     record {
       value = sym (ap answer-of is);
       after = left-as v _ (c .args .floor) (o (v .«open»)) (Ok (a .book)) is
