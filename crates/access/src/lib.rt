@@ -1,5 +1,7 @@
 // The rules of access: which marks and grades allow a program, under its certificate, to read, write, run and hand over.
 // They are asked here and nowhere else.
+#![tactic(auto)]
+
 ghost use Rattle.std.specs.Prelude.{◌≡◌};
 ghost use Rattle.refusals.specs.Refusals.{checked};
 ghost use Rattle.model.specs.Access.{read_access, write_access, run_access, hand_access};

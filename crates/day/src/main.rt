@@ -1,4 +1,6 @@
 // The day run: reads standard input, answers its lines at the example vault, and prints the text.
+#![tactic(auto)]
+
 use dayrun::day::MOST_INPUT;
 use dayrun::example;
 use std::io::Read;

@@ -1,4 +1,6 @@
 // The register of a vault: its binary form, the reader of that form, and what the register says of sheets, certificates and seats.
+#![tactic(auto)]
+
 pub mod certificate;
 pub mod entry;
 mod fields;

@@ -1,2 +1,4 @@
 // Where the sheets of a store stand in a memory that is cut into units.
+#![tactic(auto)]
+
 pub mod spans;

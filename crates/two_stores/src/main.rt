@@ -1,5 +1,7 @@
 // The same day at two vaults: the example vault over a slab, and over a page store. Reads standard input, answers its
 // lines at each, and prints both texts.
+#![tactic(auto)]
+
 mod paged;
 
 use dayrun::day::MOST_INPUT;
