@@ -8,8 +8,8 @@ value-requires t c =
     let p = parted c.args.digits.now some c.requires.digits in
     search (rules, p.digits)
 
-pub overflow-sub-last-in-len1-up : goal.overflow-sub-last-in-len1-up
-overflow-sub-last-in-len1-up t c =
+pub overflow_sub-last-in-len1-up : goal.overflow_sub-last-in-len1-up
+overflow_sub-last-in-len1-up t c =
     let some : 0 < length c.args.digits.now = search rules in
     (parted c.args.digits.now some c.requires.digits).low
 

@@ -12,8 +12,8 @@ returns-in-Read g c =
     let p = policy g.M.Order g.G.Order c.args.vault.now in
     let s = state g.S.Store c.args.vault.now in
     record {
-      bytes = asked_text (read a.seat a.sheet a.place) (λ _ _. refl) c.args.ask a.size fits (ap call a.is) c.print-filled.result p s _ _ _ c.read-said.result
-          c.read-said.ensures.value c.read-said.ensures.buffer c.print-filled.ensures;
+      bytes = asked_text (read a.seat a.sheet a.place) (λ _ _. refl) c.args.ask a.size fits (ap call a.is) c.print_filled.result p s _ _ _ c.read-said.result
+          c.read-said.ensures.value c.read-said.ensures.buffer c.print_filled.ensures;
       after = asked_after (read a.seat a.sheet a.place) (λ _ _. refl) c.args.ask a.size fits (ap call a.is) p s _
           (read_after p s _ a.seat a.sheet a.place _ (ap (state g.S.Store) c.read-said.ensures.same));
       kept = search rules;
@@ -26,8 +26,8 @@ returns-in-Run g c =
     let p = policy g.M.Order g.G.Order c.args.vault.now in
     let s = state g.S.Store c.args.vault.now in
     record {
-      bytes = asked_text (run a.seat a.sheet a.place) (λ _ _. refl) c.args.ask a.size fits (ap call a.is) c.print-filled-in-Run.result p s _ _ _ c.run-said.result
-          c.run-said.ensures.value c.run-said.ensures.buffer c.print-filled-in-Run.ensures;
+      bytes = asked_text (run a.seat a.sheet a.place) (λ _ _. refl) c.args.ask a.size fits (ap call a.is) c.print_filled-in-Run.result p s _ _ _ c.run-said.result
+          c.run-said.ensures.value c.run-said.ensures.buffer c.print_filled-in-Run.ensures;
       after = asked_after (run a.seat a.sheet a.place) (λ _ _. refl) c.args.ask a.size fits (ap call a.is) p s _ c.run-said.ensures.after;
       kept = c.run-said.ensures.kept;
     }

@@ -10,4 +10,4 @@ pub returns : goal.returns
 returns g c =
     let first = ended (line_text (Opened (opening_number (answer_of (opening_of g.M.Order g.G.Order g.S.Store c.args.vault c.args.register.now c.args.floor))))) in
     whole_day g.M.Order g.G.Order g.S.Store c.args.vault c.open.new.vault c.args.floor c.args.register.now c.args.input.now _ _
-    c.in-ok-open.ensures.after (c.in-ok-open.ensures.bytes ∙ ap (λ b. b ++ first) c.new-out.ensures.bytes) c.in-ok-answer-all.ensures
+    c.in_ok-open.ensures.after (c.in_ok-open.ensures.bytes ∙ ap (λ b. b ++ first) c.new-out.ensures.bytes) c.in_ok-answer_all.ensures

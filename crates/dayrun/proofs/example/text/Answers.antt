@@ -8,8 +8,8 @@ use Rattle.dayrun.proofs.example.text.Goals as goal
 pub returns : goal.returns
 returns c =
     let v = c.new-vault.result in
-    let items : vec_items c.in-ok-memory.memory ≡ replicate 28 0 = search rules in
+    let items : vec_items c.in_ok-memory.memory ≡ replicate 28 0 = search rules in
     let sheets = ap slab_sheets c.new-vault.ensures.store ∙ c.new-2.ensures.sheets ∙ ap (made_sheets (8 ∷ 8 ∷ 4 ∷ 4 ∷ 4 ∷ [])) items ∙ slab_of_zeros in
-    let said : string_bytes c.in-ok-text.field-0 ≡ day_text marking grading storing v c.register.result.now floor c.args.input.now = c.in-ok-text.ensures in
+    let said : string_bytes c.in_ok-text.field-0 ≡ day_text marking grading storing v c.register.result.now floor c.args.input.now = c.in_ok-text.ensures in
     said
     ∙ example_day storing v c.new.result c.register.result.now c.args.input.now c.new-vault.ensures.grades c.new.ensures sheets c.new-vault.ensures.is_open c.register.ensures

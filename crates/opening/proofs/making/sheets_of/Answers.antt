@@ -6,8 +6,8 @@ use Rattle.opening.proofs.Filling.{sheet_pushed}
 use Rattle.opening.proofs.Sizes.{few_entries}
 use Rattle.opening.proofs.making.sheets_of.Goals as goal
 
-pub overflow-cast-k : goal.overflow-cast-k
-overflow-cast-k c =
+pub overflow_cast-k : goal.overflow_cast-k
+overflow_cast-k c =
     let few : length c.entries-e-items.result.now ≤ 64 = rw c.entries-e-items.ensures (few_entries c.args.register.now) in
     search rules
 

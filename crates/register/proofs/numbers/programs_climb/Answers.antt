@@ -12,13 +12,13 @@ climb_here n cs j b h e =
     pass_here (climbs_at n cs) (range_with_len 0 (length cs)) j 0 b (omega (arith, length-range_with_len 0 (length cs)))
     (ap (climbs_at n cs) (get_or-range_with_len 0 (length cs) j 0 h ∙ zero-add j) ∙ e)
 
-pub returns-then-not-climbs-at : goal.returns-then-not-climbs-at
-returns-then-not-climbs-at c =
-    climb_here c.args.sheets c.args.certificates.now c.loop-j.j false (omega arith) (sym c.climbs_at.ensures ∙ c.if-not-climbs-at.true) ∙ c.loop-j.invariant
+pub returns-then-not-climbs_at : goal.returns-then-not-climbs_at
+returns-then-not-climbs_at c =
+    climb_here c.args.sheets c.args.certificates.now c.loop-j.j false (omega arith) (sym c.climbs_at.ensures ∙ c.if-not-climbs_at.true) ∙ c.loop-j.invariant
 
 pub loop-j-preserved : goal.loop-j-preserved
 loop-j-preserved c =
-    climb_here c.args.sheets c.args.certificates.now c.loop-j.j true (omega arith) (sym c.climbs_at.ensures ∙ c.if-not-climbs-at.false) ∙ c.loop-j.invariant
+    climb_here c.args.sheets c.args.certificates.now c.loop-j.j true (omega arith) (sym c.climbs_at.ensures ∙ c.if-not-climbs_at.false) ∙ c.loop-j.invariant
 
 pub returns : goal.returns
 returns c =

@@ -5,9 +5,9 @@ use Rattle.two_stores.proofs.paged.store.Goals as goal
 
 pub returns : goal.returns
 returns c =
-    let list : vec_items c.in-ok-list.list ≡ 3 ∷ 1 ∷ 6 ∷ 0 ∷ 2 ∷ [] = search rules in
-    let memory : vec_items c.in-ok-memory.memory ≡ replicate 112 0 = search rules in
+    let list : vec_items c.in_ok-list.list ≡ 3 ∷ 1 ∷ 6 ∷ 0 ∷ 2 ∷ [] = search rules in
+    let memory : vec_items c.in_ok-memory.memory ≡ replicate 112 0 = search rules in
     c.new.ensures.sheets
-    ∙ ap (λ (ns : List ℕ). made_sheets (8 ∷ 8 ∷ 4 ∷ 4 ∷ 4 ∷ []) ns (vec_items c.in-ok-memory.memory)) list
+    ∙ ap (λ (ns : List ℕ). made_sheets (8 ∷ 8 ∷ 4 ∷ 4 ∷ 4 ∷ []) ns (vec_items c.in_ok-memory.memory)) list
     ∙ ap (made_sheets (8 ∷ 8 ∷ 4 ∷ 4 ∷ 4 ∷ []) (3 ∷ 1 ∷ 6 ∷ 0 ∷ 2 ∷ [])) memory
     ∙ pages_of_zeros

@@ -15,9 +15,9 @@ pub loop-b-preserved : goal.loop-b-preserved
 loop-b-preserved g c =
     λ plain.
     let sofar = c.loop-b.invariant plain in
-    let put = c.write-char.ensures.writes sofar.plain (search rules) in
+    let put = c.write_char.ensures.writes sofar.plain (search rules) in
     has_written_of_eq g.W.Write.write_str_gives _ _ _ _
-    (shown_more c.args.self.now.0.now c.loop-b.b-index _ c.loop-b-test.true c.sign-of.ensures.value c.sign-of.ensures.bound)
+    (shown_more c.args.self.now.0.now c.loop-b.b-index _ c.loop-b-test.true c.sign_of.ensures.value c.sign_of.ensures.bound)
     (has_written_append g.W.Write.write_str_gives _ _ _ _ _ sofar put)
 
 pub returns-clause-writes : goal.returns-clause-writes

@@ -5,8 +5,8 @@ use Rattle.pages.proofs.Copying.{read_step}
 use Rattle.pages.proofs.Gathering.{stretch_within}
 use Rattle.pages.proofs.pages.copying.gather.Goals as goal
 
-pub slice-bounds-copy-from-slice-end-in-loop-done : goal.slice-bounds-copy-from-slice-end-in-loop-done
-slice-bounds-copy-from-slice-end-in-loop-done c =
+pub slice_bounds-copy_from_slice-end-in-loop-done : goal.slice_bounds-copy_from_slice-end-in-loop-done
+slice_bounds-copy_from_slice-end-in-loop-done c =
     let at = c.args.at + c.loop-done.done in
     let left = length c.loop-done.buffer - c.loop-done.done in
     let w = stretch_within c.args.list.now c.args.memory.now at left c.stretch-start.result.0 c.stretch-start.result.1 (omega arith) c.stretch-start.ensures.start c.stretch-start.ensures.len c.requires.whole in
@@ -16,7 +16,7 @@ pub loop-done-preserved : goal.loop-done-preserved
 loop-done-preserved c =
     let left = length c.loop-done.buffer - c.loop-done.done in (
       search (rules, places),
-      read_step c.args.list.now c.args.memory.now c.args.at c.loop-done.done left c.stretch-start.result.0 c.stretch-start.result.1 (omega arith) c.stretch-start.ensures.start c.stretch-start.ensures.len c.requires.whole c.loop-done.buffer c.copy-from-slice.new.self c.copy-from-slice.ensures.after c.loop-done.invariant.0 c.loop-done.invariant.1,
+      read_step c.args.list.now c.args.memory.now c.args.at c.loop-done.done left c.stretch-start.result.0 c.stretch-start.result.1 (omega arith) c.stretch-start.ensures.start c.stretch-start.ensures.len c.requires.whole c.loop-done.buffer c.copy_from_slice.new.self c.copy_from_slice.ensures.after c.loop-done.invariant.0 c.loop-done.invariant.1,
     )
 
 pub returns : goal.returns

@@ -11,8 +11,8 @@ pub loop-done-init : goal.loop-done-init
 loop-done-init c =
     (omega arith, sym (splice_none (gathered c.args.memory.now c.args.list.now) c.args.at), λ n other. refl)
 
-pub slice-bounds-copy-from-slice-end : goal.slice-bounds-copy-from-slice-end
-slice-bounds-copy-from-slice-end c =
+pub slice_bounds-copy_from_slice-end : goal.slice_bounds-copy_from_slice-end
+slice_bounds-copy_from_slice-end c =
     let at = c.args.at + c.loop-done.done in
     let left = length c.args.bytes.now - c.loop-done.done in
     let whole : all_inside c.args.list.now (length c.loop-done.memory) ≡ true = ap (all_inside c.args.list.now) c.loop-done.auto.memory ∙ c.requires.whole in
@@ -29,8 +29,8 @@ loop-done-preserved c =
     let whole : all_inside ns (length m) ≡ true = ap (all_inside ns) c.loop-done.auto.memory ∙ c.requires.whole in
     let fits : c.loop-done.done + len ≤ length c.args.bytes.now = omega (arith, c.stretch-start.ensures.len) in (
       fits,
-      write_step ns m c.args.at c.loop-done.done left start len (omega arith) c.stretch-start.ensures.start c.stretch-start.ensures.len whole c.args.memory.now c.args.bytes.now c.copy-from-slice.new.self c.copy-from-slice.ensures.after fits c.requires.apart (omega (arith, length_gathered c.args.memory.now ns c.requires.whole)) c.loop-done.invariant.1,
-      others_step ns m c.args.at c.loop-done.done left start len (omega arith) c.stretch-start.ensures.start c.stretch-start.ensures.len whole c.args.memory.now c.args.bytes.now c.copy-from-slice.new.self c.copy-from-slice.ensures.after fits c.loop-done.invariant.2,
+      write_step ns m c.args.at c.loop-done.done left start len (omega arith) c.stretch-start.ensures.start c.stretch-start.ensures.len whole c.args.memory.now c.args.bytes.now c.copy_from_slice.new.self c.copy_from_slice.ensures.after fits c.requires.apart (omega (arith, length_gathered c.args.memory.now ns c.requires.whole)) c.loop-done.invariant.1,
+      others_step ns m c.args.at c.loop-done.done left start len (omega arith) c.stretch-start.ensures.start c.stretch-start.ensures.len whole c.args.memory.now c.args.bytes.now c.copy_from_slice.new.self c.copy_from_slice.ensures.after fits c.loop-done.invariant.2,
     )
 
 pub returns : goal.returns

@@ -5,12 +5,12 @@ use Rattle.spans.proofs.spans.Spans.push.Goals as goal
 pub bounds-self-self : goal.bounds-self-self
 bounds-self-self g c = omega (arith, many c.args.self.now, c.requires.few)
 
-pub overflow-add-self-2 : goal.overflow-add-self-2
-overflow-add-self-2 g c =
+pub overflow_add-self-2 : goal.overflow_add-self-2
+overflow_add-self-2 g c =
     omega (arith, end_bound c.args.self.now c.args.size c.requires.few (omega arith), c.rounded.ensures.bound, c.requires.size)
 
-pub invariant-of-self : goal.invariant-of-self
-invariant-of-self g c =
+pub invariant_of-self : goal.invariant_of-self
+invariant_of-self g c =
     let s = c.args.self.now in
     let z = c.args.size in (
       simp length-set s.table,

@@ -14,8 +14,8 @@ few zs h = leb-true (length zs) 64 (and_parts (leb (length zs) 64) (small zs) h)
 size_few : (zs : List ℕ) (k : ℕ) → within_limits zs ≡ true → k < length zs → get_or zs k 0 ≤ 4096
 size_few zs k h below = small_at zs k (and_parts (leb (length zs) 64) (small zs) h).1 below
 
-pub overflow-add-start : goal.overflow-add-start
-overflow-add-start c =
+pub overflow_add-start : goal.overflow_add-start
+overflow_add-start c =
     let n = few c.args.sizes.now c.requires in
     let z = size_few c.args.sizes.now c.loop-i.i c.requires c.loop-i-test.true in
     omega arith

@@ -9,5 +9,5 @@ use Rattle.vault.proofs.vault.Vault.caller.Goals as goal
 pub returns : goal.returns
 returns g c =
     let opened : c.args.self.now.«open» ≡ true = search rules in
-    row_or (rows_of c.args.self.now.seats) c.args.seat blank_seat NoSeat c.get.result c.ok-or.result c.get.ensures c.ok-or.ensures.value
+    row_or (rows_of c.args.self.now.seats) c.args.seat blank_seat NoSeat c.get.result c.ok_or.result c.get.ensures c.ok_or.ensures.value
     ∙ sym (cond-false _ _ _ (not_from_true _ opened))

@@ -7,13 +7,13 @@ use Rattle.vault.specs.Parts.{run_front}
 use Rattle.vault.proofs.Deciding.{stops, passes, stays, follows}
 use Rattle.vault.proofs.vault.Vault.run.Goals as goal
 
-pub returns-in-err-caller : goal.returns-in-err-caller
-returns-in-err-caller g c =
+pub returns-in_err-caller : goal.returns-in_err-caller
+returns-in_err-caller g c =
     let v = c.args.self.now in
-    let e = c.in-err-caller.field-0.0 in
-    let p = err_from_is_err_and c.from-residual.result c.from-residual.ensures.1 in
+    let e = c.in_err-caller.field-0.0 in
+    let p = err_from_is_err_and c.from_residual.result c.from_residual.ensures.1 in
     let h = stops (run_front (policy g.M.Order g.G.Order v) (state g.S.Store v) c.args.seat c.args.sheet)
-    (reach_tests (g.S.Store.sheets v.store) c.args.sheet c.args.place (length c.args.buffer.now)) (seat_at (state g.S.Store v) c.args.seat) e c.in-err-caller.ensures in
+    (reach_tests (g.S.Store.sheets v.store) c.args.sheet c.args.place (length c.args.buffer.now)) (seat_at (state g.S.Store v) c.args.seat) e c.in_err-caller.ensures in
     record {
       value = ap done (p.1 ∙ ap Err p.2) ∙ h;
       buffer = stays _ e _ _ h;
@@ -22,17 +22,17 @@ returns-in-err-caller g c =
       store = refl;
     }
 
-pub returns-in-err-read : goal.returns-in-err-read
-returns-in-err-read g c =
+pub returns-in_err-read : goal.returns-in_err-read
+returns-in_err-read g c =
     let v = c.args.self.now in
-    let e = c.in-err-read.field-0.0 in
-    let p = err_from_is_err_and c.from-residual-in-err-read.result c.from-residual-in-err-read.ensures.1 in
+    let e = c.in_err-read.field-0.0 in
+    let p = err_from_is_err_and c.from_residual-in_err-read.result c.from_residual-in_err-read.ensures.1 in
     let h = passes (run_front (policy g.M.Order g.G.Order v) (state g.S.Store v) c.args.seat c.args.sheet)
     (reach_tests (g.S.Store.sheets v.store) c.args.sheet c.args.place (length c.args.buffer.now)) (seat_at (state g.S.Store v) c.args.seat) _ (Err e)
-    c.in-ok-caller.ensures c.in-err-read.ensures.result in
+    c.in_ok-caller.ensures c.in_err-read.ensures.result in
     record {
       value = ap done (p.1 ∙ ap Err p.2) ∙ h;
-      buffer = follows _ (Err e) _ _ _ _ h c.in-err-read.ensures.result c.read.ensures.buffer;
+      buffer = follows _ (Err e) _ _ _ _ h c.in_err-read.ensures.result c.read.ensures.buffer;
       after = stays _ e _ _ h;
       kept = record { marks = refl; grades = refl; is_open = refl; floor = refl; sheets = refl };
       store = refl;

@@ -7,13 +7,13 @@ use Rattle.vault.specs.Parts.{write_front}
 use Rattle.vault.proofs.Deciding.{stops, passes, stays, sheets_follow}
 use Rattle.vault.proofs.vault.Vault.write.Goals as goal
 
-pub returns-in-err-may-write : goal.returns-in-err-may-write
-returns-in-err-may-write g c =
+pub returns-in_err-may_write : goal.returns-in_err-may_write
+returns-in_err-may_write g c =
     let v = c.args.self.now in
-    let e = c.in-err-may-write.field-0.0 in
-    let p = err_from_is_err_and c.from-residual.result c.from-residual.ensures.1 in
+    let e = c.in_err-may_write.field-0.0 in
+    let p = err_from_is_err_and c.from_residual.result c.from_residual.ensures.1 in
     let h = stops (write_front (policy g.M.Order g.G.Order v) (state g.S.Store v) c.args.seat c.args.sheet)
-    (reach_tests (g.S.Store.sheets v.store) c.args.sheet c.args.place (length c.args.bytes.now)) tt e c.in-err-may-write.ensures in
+    (reach_tests (g.S.Store.sheets v.store) c.args.sheet c.args.place (length c.args.bytes.now)) tt e c.in_err-may_write.ensures in
     record {
       value = ap done (p.1 ∙ ap Err p.2) ∙ h;
       after = stays _ e _ _ h;
@@ -24,7 +24,7 @@ pub returns : goal.returns
 returns g c =
     let v = c.args.self.now in
     let h = passes (write_front (policy g.M.Order g.G.Order v) (state g.S.Store v) c.args.seat c.args.sheet)
-    (reach_tests (g.S.Store.sheets v.store) c.args.sheet c.args.place (length c.args.bytes.now)) tt tt c.write.result c.in-ok-may-write.ensures c.write.ensures.result in
+    (reach_tests (g.S.Store.sheets v.store) c.args.sheet c.args.place (length c.args.bytes.now)) tt tt c.write.result c.in_ok-may_write.ensures c.write.ensures.result in
     record {
       value = h;
       after = sheets_follow (rows_of v.seats) _ c.write.result _ _ _ _ h c.write.ensures.result c.write.ensures.after;

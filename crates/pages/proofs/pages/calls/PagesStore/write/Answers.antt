@@ -7,7 +7,7 @@ put-requires c =
     let s = c.args.self.now in
     record {
       short = s.short;
-      reach = omega (arith, c.in-ok-at.ensures.within, listed_long s, s.list.ok.0);
+      reach = omega (arith, c.in_ok-at.ensures.within, listed_long s, s.list.ok.0);
       whole = s.whole;
       apart = s.apart;
     }
