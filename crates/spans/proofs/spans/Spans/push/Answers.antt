@@ -12,19 +12,14 @@ overflow_add-self-2 g c =
 pub invariant_of-self : goal.invariant_of-self
 invariant_of-self g c =
     let s = c.args.self.now in
-    let z = c.args.size in (
-      simp length-set s.table,
-      (
-        omega (arith, many s, c.requires.few),
-        (
-          limit_more s z c.requires.few c.requires.size,
-          (
-            packed_more s z c.requires.few,
-            (ap (λ (n : ℕ). s.end + n) c.rounded.ensures.value ∙ taken_more s z c.requires.few, tt),
-          ),
-        ),
-      ),
-    )
+    let z = c.args.size in
+    record {
+      table = simp length-set s.table;
+      few = omega (arith, many s, c.requires.few);
+      limit = limit_more s z c.requires.few c.requires.size;
+      packed = packed_more s z c.requires.few;
+      taken = ap (λ (n : ℕ). s.end + n) c.rounded.ensures.value ∙ taken_more s z c.requires.few;
+    }
 
 pub returns : goal.returns
 returns g c = sizes_more c.args.self.now c.args.size c.requires.few
