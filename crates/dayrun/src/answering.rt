@@ -23,7 +23,8 @@ const MOST_BUFFER: usize = 64;
 pub fn print(out: &mut String, line: Answer) -> fmt::Result
     ensures { OnOk result (string_bytes out.new ≡ string_bytes out.old ++ ended (line_text line)) }
 {
-    writeln!(out, "{line}")
+    writeln!(out, "{line}")?;
+    Ok(())
 }
 
 // Adds the answer to a call that fills a buffer.
@@ -33,7 +34,8 @@ fn print_filled(out: &mut String, said: Result<(), Refusal>, buffer: &[u8]) -> f
     match said {
         Ok(()) => {
             let line = Filled(buffer);
-            writeln!(out, "{line}")
+            writeln!(out, "{line}")?;
+            Ok(())
         }
         Err(refusal) => print(out, Answer::Refused(refusal)),
     }

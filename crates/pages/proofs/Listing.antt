@@ -24,7 +24,7 @@ and_not true b = refl
 and_not false b = refl
 
 -- what a look through a list answers
-pub found : (ns : List ℕ) (n : ℕ) (r : Bool) → IsAnyAnswer (λ y t. Decides t (y ≡ n)) ns r → r ≡ not (unlisted ns n)
+pub found : (ns : List ℕ) (n : ℕ) (r : Bool) → IsAnyAnswer (λ y t. eqb y n ≡ t) ns r → r ≡ not (unlisted ns n)
 found ns n r looked =
     same_from_decides r (not (unlisted ns n)) (contains_decides eqb Decides-eqb ns n r looked)
     (Decides-by_or (λ y. eqb n y) (λ y. y ≡ n) (λ xs. not (unlisted xs n)) (λ y. Decides-like (eqb n y) sym sym (Decides-eqb n y)) refl (λ y ys. and_not (eqb n y) (unlisted ys n)) ns)
