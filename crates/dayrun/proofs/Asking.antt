@@ -1,5 +1,5 @@
 -- A call that fills a buffer of zeros, cut to the size that is asked for: what is printed of it, and what it leaves.
-use Rattle.std.proofs.Common.{◌≡◌, ℕ, ◌-◌, ◌≤◌, Bool, true, false, cond, List, ◌++◌, map, take, drop, replicate, IfOk, Ok, Err, codes, Result, sym, ap, ◌∙◌, ⊎_elim}
+use Rattle.std.proofs.Common.{◌≡◌, ℕ, ◌-◌, ◌≤◌, List, ◌++◌, map, take, drop, replicate, IfOk, Ok, Err, codes, Result, sym, ap, ◌∙◌, ⊎_elim}
 use native.Mathlib.Nat.{sub-zero}
 use Rattle.std.proofs.lemmas.List.{take-replicate}
 use Rattle.std.proofs.lemmas.Result.{IfOk-weaker}

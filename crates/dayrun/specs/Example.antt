@@ -4,7 +4,6 @@ use Rattle.std.specs.List.{flat_map}
 use Rattle.register.specs.Tables.{Book}
 use Rattle.register.specs.declared.label.Label.{Label}
 use Rattle.register.specs.declared.entry.Entry.{Entry}
-use Rattle.register.specs.declared.certificate.Certificate.{Certificate}
 use Rattle.orders.specs.Compartments as compartments
 use Rattle.orders.specs.Ladder as ladder
 use Rattle.model.specs.Orders.{Order}

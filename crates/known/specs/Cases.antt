@@ -1,5 +1,5 @@
 -- Known answers of the two orders, and of the example vault just opened, as one table.
-use Rattle.std.specs.Prelude.{◌≡◌, ℕ, ◌^◌, Bool, true, false, cond, List, [], ◌∷◌, Ok, Err, Result, ◌==◌}
+use Rattle.std.specs.Prelude.{◌≡◌, ℕ, ◌^◌, Bool, true, cond, List, [], ◌∷◌, Ok, Err, ◌==◌}
 use Rattle.std.specs.List.{list_all}
 use Rattle.refusals.specs.Refusals.{number_of}
 use Rattle.model.specs.Calls.{Call, Answer, write}

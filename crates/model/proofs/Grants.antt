@@ -2,12 +2,11 @@
 use Rattle.std.proofs.Common.{◌≡◌, ℕ, ◌+◌, ◌<◌, ◌≤◌, Bool, true, false, List, length, is_some}
 use Rattle.std.specs.List.{AllByRecursion as All}
 use Rattle.std.proofs.lemmas.Bool.{leb-false, ltb-false, not-false, and_parts}
-use Rattle.refusals.specs.Refusals.{Test}
 use Rattle.refusals.proofs.Testing.{none_fits}
 use Rattle.register.specs.declared.certificate.Certificate.{Certificate}
-use Rattle.model.specs.Calls.{Call, read, write, run, hand, tell, seat_of}
+use Rattle.model.specs.Calls.{Call, read, write, run, hand, seat_of}
 use Rattle.model.specs.States.{Policy, State, held, label_of, certificate_of, seat_at, bytes_of}
-use Rattle.model.specs.Rules.{kind_tests, tests, numbers, answer, accepted}
+use Rattle.model.specs.Rules.{kind_tests, tests, numbers, accepted}
 
 -- the first mark or grade is at or below the second
 abbrev pub mark_below : Policy → ℕ → ℕ → Bool

@@ -1,12 +1,10 @@
 -- What an accepted opening tells of the vault that it leaves, and so the law of two runs for that vault.
-use Rattle.std.proofs.Common.{◌≡◌, ℕ, zero, suc, ◌<◌, ◌≤◌, Bool, true, false, cond, not, ◌&&◌, ◌||◌, eqb, List, [], ◌∷◌, map, length, get_or, is_some, is_ok, Some, None, Ok, Err, Option, Result, sym, refl, ap, ◌∙◌, subst, ⊎_elim, arith}
+use Rattle.std.proofs.Common.{◌≡◌, ℕ, zero, suc, ◌<◌, Bool, true, false, ◌&&◌, eqb, List, [], ◌∷◌, map, length, get_or, is_some, is_ok, Some, None, Option, sym, refl, ap, ◌∙◌, subst, ⊎_elim, arith}
 use lib.ListN.{length-map}
-use Rattle.std.specs.List.{range_with_len, AllByRecursion as All, list_all}
+use Rattle.std.specs.List.{AllByRecursion as All, list_all}
 use Rattle.std.proofs.lemmas.List.FromFn.{length-map-range_with_len, get_or-map-range_with_len}
 use Rattle.std.proofs.lemmas.List.{get_or-map, get_or_past}
 use Rattle.std.proofs.lemmas.Bool.{cases_Bool, cases_lt, false≢true, both_ways, and_parts, or_cases, not-true, not-false, eqb-true, cond-true, cond-false}
-use Rattle.refusals.specs.Refusals.{Test, checked}
-use Rattle.refusals.specs.declared.refusal.Refusal.{Refusal}
 use Rattle.register.specs.Certificates.{certificate_in}
 use Rattle.register.specs.Layout.{decoded}
 use Rattle.register.specs.Numbers.{size_fits, programs_climb, is_program}
@@ -15,9 +13,9 @@ use Rattle.register.specs.declared.entry.Entry.{Entry}
 use Rattle.register.specs.declared.certificate.Certificate.{Certificate}
 use Rattle.model.specs.Orders.{Order, Lawful}
 use Rattle.model.specs.Calls.{Call}
-use Rattle.model.specs.States.{Policy, State, held, certificate_of, blank_seat, blank_sheet, seat_at, sizes_of}
+use Rattle.model.specs.States.{Policy, held, blank_seat, blank_sheet, sizes_of}
 use Rattle.model.specs.Runs.{final}
-use Rattle.model.specs.Opening.{opening, opening_tests, in_range, floored, same_sizes, sheet_for, seat_for, first_sheets, first_seats, fixed, started}
+use Rattle.model.specs.Opening.{opening, opening_tests, in_range, floored, same_sizes, sheet_for, seat_for, first_sheets, fixed, started}
 use Rattle.model.specs.TwoRuns.{Law}
 use Rattle.refusals.proofs.Testing.{none_fits}
 use Rattle.model.proofs.Unwinding.{Tested, Sound, AllTested, sound_final, two_runs, all_floored}

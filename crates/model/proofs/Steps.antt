@@ -1,5 +1,5 @@
 -- What changing one seat or one sheet does to what a view sees.
-use Rattle.std.proofs.Common.{◌≡◌, ℕ, ◌<◌, Bool, true, false, ◌&&◌, ltb, ◌≢◌, List, [], length, get_or, set, sym, refl, ap, ◌∙◌, ⊎_elim, length-set, get_or-set_other, get_or-set_same}
+use Rattle.std.proofs.Common.{◌≡◌, ℕ, ◌<◌, false, ◌&&◌, ltb, ◌≢◌, List, [], length, sym, refl, ap, ◌∙◌, ⊎_elim, length-set, get_or-set_other, get_or-set_same}
 use Rattle.std.proofs.lemmas.Bool.{cases_eq, both_ways, lt-ltb}
 use Rattle.stores.specs.Splices.{spliced}
 use Rattle.register.specs.declared.label.Label.{Label}

@@ -1,10 +1,10 @@
 -- One call leaves what is seen alike, and so do whole lists of calls: the law, by one induction over the lists.
-use Rattle.std.proofs.Common.{◌≡◌, ℕ, ◌+◌, ◌<◌, ◌≤◌, Bool, true, false, cond, not, ◌&&◌, ◌||◌, ltb, leb, List, [], ◌∷◌, ◌++◌, map, length, get_or, take, drop, is_some, is_ok, Some, None, Ok, Err, filter, Option, sym, refl, ap, ◌∙◌, subst, ⊎_elim, arith, length-append, length-drop, length-set, length-take, get_or-set_other, get_or-set_same}
+use Rattle.std.proofs.Common.{◌≡◌, ℕ, ◌+◌, ◌<◌, ◌≤◌, true, false, cond, not, ltb, leb, List, [], ◌∷◌, ◌++◌, map, length, get_or, take, drop, is_some, is_ok, Some, None, Ok, Err, Option, sym, refl, ap, ◌∙◌, subst, ⊎_elim, arith, length-append, length-drop, length-set, length-take, get_or-set_other, get_or-set_same}
 use lib.ListN.{length-map, get_or-map}
 use lib.Seq.{map-set_same}
 use Rattle.std.specs.List.{AllByRecursion as All}
-use Rattle.std.proofs.lemmas.Bool.{cases_Bool, cases_eq, false≢true, both_ways, ltb-true, lt-ltb, lt-leb, and_parts, and_from, and_cases, or_parts, or_cases, not-false, not_from_false, cond-true, cond-false}
-use Rattle.refusals.specs.Refusals.{Test, on, checked}
+use Rattle.std.proofs.lemmas.Bool.{cases_Bool, cases_eq, false≢true, both_ways, ltb-true, lt-ltb, lt-leb, and_parts, and_from, and_cases, or_parts, or_cases, not-false, cond-true, cond-false}
+use Rattle.refusals.specs.Refusals.{on, checked}
 use Rattle.refusals.specs.declared.refusal.Refusal.TheVariants.{Closed, NoSeat, NoSheet, PastEnd}
 use Rattle.stores.specs.Sheets.{reach_tests}
 use Rattle.stores.specs.Splices.{spliced}
@@ -12,10 +12,10 @@ use Rattle.register.specs.declared.label.Label.{Label}
 use Rattle.register.specs.declared.certificate.Certificate.{Certificate}
 use Rattle.model.specs.Orders.{Lawful}
 use Rattle.model.specs.Calls.{Call, read, write, run, hand, tell, seat_of, brought}
-use Rattle.model.specs.States.{Policy, State, held, label_of, certificate_of, blank_seat, seat_at, bytes_of, sizes_of, with_seat, with_bytes}
+use Rattle.model.specs.States.{Policy, State, held, label_of, certificate_of, blank_seat, seat_at, bytes_of, sizes_of, with_seat}
 use Rattle.model.specs.Rules.{read_rules, write_rules, run_rules, kind_tests, tests, numbers, answer, accepted, effect, filled, after, reply}
-use Rattle.model.specs.Runs.{Turn, turns, reply_at, final}
-use Rattle.model.specs.TwoRuns.{holder, in_view, sheet_in_view, seat_in_view, program_in_view, reaches, release, counts, counted, kept, replies, releases, SameSheets, Alike, Floored}
+use Rattle.model.specs.Runs.{Turn, reply_at, final}
+use Rattle.model.specs.TwoRuns.{in_view, sheet_in_view, seat_in_view, reaches, release, counts, counted, kept, replies, releases, Alike, Floored}
 use Rattle.model.specs.declared.seat.Seat.{Seat}
 use Rattle.refusals.proofs.Testing.{checked_value}
 use Rattle.model.proofs.Grants.{mark_below, grade_below, Seen, seated, read_grants, run_grants, write_grants, hand_grants}

@@ -1,5 +1,5 @@
 -- What an opening tests, in order, and what an accepted one leaves.
-use Rattle.std.specs.Prelude.{◌≡◌, ℕ, Bool, true, false, not, ◌&&◌, ◌||◌, List, [], ◌∷◌, map, length, is_ok, Result, ◌==◌, nat_lt, slice_index_or}
+use Rattle.std.specs.Prelude.{ℕ, Bool, true, false, not, ◌&&◌, ◌||◌, List, [], ◌∷◌, map, length, Result, ◌==◌, nat_lt, slice_index_or}
 use Rattle.std.specs.List.{range_with_len, list_all}
 use Rattle.refusals.specs.Refusals.{Test, on, checked}
 use Rattle.refusals.specs.declared.refusal.Refusal.{Refusal}

@@ -1,9 +1,9 @@
 -- Inclusion of categories, bit by bit, is a mask's equation, and it is reflexive and transitive.
-use Rattle.std.specs.Prelude.{◌≡◌, ℕ, zero, suc, ◌+◌, ◌-◌, ◌*◌, ◌/◌, ◌%◌, ◌^◌, ◌<◌, ◌≤◌, Bool, true, false, not, ◌&&◌, ◌||◌, ◌==◌, bit_and, nat_lt, refl}
-use Rattle.std.proofs.Common.{sym, ap, ◌∙◌, one-add, arith}
+use Rattle.std.specs.Prelude.{◌≡◌, ℕ, zero, suc, ◌+◌, ◌*◌, ◌/◌, ◌%◌, ◌^◌, ◌<◌, Bool, true, false, not, ◌&&◌, ◌||◌, ◌==◌, bit_and, nat_lt, refl}
+use Rattle.std.proofs.Common.{ap, one-add, arith}
 use Rattle.std.proofs.Math.Nat.{mod-one}
 use Rattle.std.proofs.lemmas.Nat.Bits.{and_high}
-use Rattle.std.proofs.lemmas.Nat.{pow_pos, mod-pow-add, mod_below, and_mask, and_mod, and_block, and_le_l}
+use Rattle.std.proofs.lemmas.Nat.{pow_pos, mod-pow-add, mod_below, and_mod, and_block, and_le_l}
 use Rattle.std.proofs.lemmas.Bool.Decides.{nat_tests, Decides-below_and}
 use Rattle.orders.specs.Compartments.{has, each_below, kept, included}
 

@@ -1,5 +1,5 @@
 -- What a page store's invariant says of its sheets, and what its check comes to.
-use Rattle.std.proofs.Common.{◌≡◌, ℕ, ◌+◌, ◌*◌, ◌≤◌, true, false, not, eqb, ◌≢◌, List, [], ◌∷◌, length, get_or, take, is_ok, Ok, Err, vec_len, sum_by, Result, sym, refl, ap, ◌∙◌, arith, MatchResult}
+use Rattle.std.proofs.Common.{◌≡◌, ℕ, ◌+◌, ◌*◌, ◌≤◌, true, false, eqb, ◌≢◌, List, [], ◌∷◌, length, get_or, take, is_ok, Ok, Err, vec_len, sum_by, Result, sym, refl, ap, ◌∙◌, arith, MatchResult}
 use Rattle.std.proofs.lemmas.List.Sums.{sum_by-cons}
 use Rattle.std.proofs.lemmas.Bool.{cond-false, eq-eqb, le-ltb, ne_eqb}
 use Rattle.refusals.specs.Refusals.{checked}

@@ -1,5 +1,5 @@
 -- One write after another, a write into one of two lists that stand end to end, and a write as a part of a list sees it.
-use Rattle.std.proofs.Common.{◌≡◌, ℕ, ◌+◌, ◌≤◌, List, [], ◌++◌, length, take, drop, sym, ap, ◌∙◌, append_assoc, arith, length-append, length-drop, length-take, rules}
+use Rattle.std.proofs.Common.{◌≡◌, ℕ, ◌+◌, ◌≤◌, List, [], ◌++◌, length, take, drop, sym, ap, ◌∙◌, append_assoc, arith, length-append, length-drop, rules}
 use Rattle.std.proofs.lemmas.List.{drop_at, drop-drop, drop-take, length-take-le, places, same_lists, take-append-drop, take_at, take-take}
 use Rattle.stores.specs.Splices.{spliced}
 use Rattle.stores.proofs.Splicing.{drop_splice_in, drop_splice_past, take_splice_in, take_splice_past}

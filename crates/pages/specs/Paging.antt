@@ -1,5 +1,5 @@
 -- Pages of 16 bytes, numbered from 0, and lists of page numbers.
-use Rattle.std.specs.Prelude.{◌≡◌, ℕ, ◌+◌, ◌*◌, Bool, true, not, ◌&&◌, List, [], ◌∷◌, take, drop, sum_by, ◌==◌, nat_eq, nat_le}
+use Rattle.std.specs.Prelude.{◌≡◌, ℕ, ◌+◌, ◌*◌, Bool, true, not, ◌&&◌, List, [], ◌∷◌, take, drop, sum_by, ◌==◌, nat_le}
 use Rattle.std.specs.List.{list_all, flat_map}
 use Rattle.spans.specs.Rooms.{units_of}
 

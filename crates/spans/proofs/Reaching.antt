@@ -1,5 +1,5 @@
 -- What a store's calls come to where its sheets stand one after the other in one memory.
-use Rattle.std.proofs.Common.{◌≡◌, ℕ, ◌+◌, ◌<◌, ◌≤◌, List, [], length, get_or, take, Err, sum_by, Result, refl, ⊎_elim, arith, rules, MatchResult}
+use Rattle.std.proofs.Common.{◌≡◌, ℕ, ◌+◌, ◌<◌, ◌≤◌, List, length, get_or, take, Err, sum_by, Result, refl, ⊎_elim, arith, rules, MatchResult}
 use Rattle.std.proofs.lemmas.List.{places, same_lists}
 use Rattle.std.proofs.lemmas.Bool.{cases_lt, le-leb, le-ltb, lt-leb, lt-ltb}
 use Rattle.refusals.specs.Refusals.{checked}

@@ -1,5 +1,5 @@
 -- The example's sheets on pages 3, 1, 6, 0 and 2 of a memory of seven pages of zeros.
-use Rattle.std.proofs.Common.{◌≡◌, ℕ, List, [], ◌∷◌, replicate, refl}
+use Rattle.std.proofs.Common.{◌≡◌, [], ◌∷◌, replicate, refl}
 use Rattle.stores.specs.declared.store.Store.{Ghosts as Storage}
 use Rattle.pages.specs.PageStores.{made_sheets, page_sheets}
 use Rattle.pages.specs.declared.pages.Pages.{Pages}

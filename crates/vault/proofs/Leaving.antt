@@ -1,5 +1,5 @@
 -- What an opening tells of the vault that it leaves.
-use Rattle.std.proofs.Common.{◌≡◌, ℕ, Bool, true, false, List, [], is_ok, Ok, Err, Result, sym, refl, ap, ◌∙◌, subst, arith}
+use Rattle.std.proofs.Common.{◌≡◌, ℕ, true, false, List, is_ok, Ok, Err, Result, sym, refl, ap, ◌∙◌, subst, arith}
 use Rattle.refusals.specs.declared.refusal.Refusal.{Refusal}
 use Rattle.refusals.proofs.Testing.{checked_is}
 use Rattle.register.specs.Layout.{decoded}
@@ -12,7 +12,7 @@ use Rattle.model.specs.declared.sheet.Sheet.{Sheet}
 use Rattle.model.specs.declared.seat.Seat.{Seat}
 use Rattle.model.proofs.Opened.{law, sizes_kept}
 use Rattle.opening.specs.Admission.{Made, made}
-use Rattle.vault.specs.Meaning.{answer_of, Left, Opened, SizesStay}
+use Rattle.vault.specs.Meaning.{Left, SizesStay}
 use Rattle.vault.specs.declared.vault.Vault.{Vault}
 
 -- the book of an accepted opening

@@ -1,4 +1,4 @@
-use Rattle.std.proofs.Common.{◌≡◌, ◌≤◌, refl, ap, rules}
+use Rattle.std.proofs.Common.{◌≤◌, refl, ap, rules}
 use Rattle.model.specs.Calls.{read, run}
 use Rattle.asks.specs.Lines.{call}
 use Rattle.vault.specs.Meaning.{policy, state}

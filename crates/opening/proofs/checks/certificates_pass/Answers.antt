@@ -1,6 +1,5 @@
-use Rattle.std.proofs.Common.{Bool, true, false, sym, ◌∙◌, arith}
+use Rattle.std.proofs.Common.{true, false, sym, ◌∙◌, arith}
 use Rattle.register.specs.Certificates.{blank_certificate}
-use Rattle.register.specs.declared.certificate.Certificate.{Certificate}
 use Rattle.register.proofs.Passing.{pass_here, pass_end}
 use Rattle.opening.specs.Tests.{passes}
 use Rattle.model.specs.Orders.{order}

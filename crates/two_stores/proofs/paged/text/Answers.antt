@@ -2,7 +2,7 @@ use Rattle.std.proofs.Common.{◌≡◌, string_bytes, ap, ◌∙◌}
 use Rattle.std.proofs.lemmas.Result.{IfOk-from_err}
 use Rattle.pages.specs.PageStores.{page_sheets}
 use Rattle.dayrun.specs.Days.{day_text}
-use Rattle.dayrun.specs.Example.{example_text, floor}
+use Rattle.dayrun.specs.Example.{floor}
 use Rattle.dayrun.proofs.Exampled.{example_day, grading, marking}
 use Rattle.two_stores.proofs.Zeros.{storing}
 use Rattle.two_stores.proofs.paged.text.Goals as goal

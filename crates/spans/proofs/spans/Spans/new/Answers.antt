@@ -1,8 +1,7 @@
-use Rattle.std.proofs.Common.{◌≡◌, ℕ, true, List, [], ◌∷◌, ◌++◌, length, get_or, sym, ap, ◌∙◌, arith, length-take}
+use Rattle.std.proofs.Common.{◌≡◌, ℕ, true, List, [], ◌∷◌, ◌++◌, length, get_or, sym, ap, ◌∙◌, arith}
 use Rattle.std.proofs.lemmas.List.{length-take-le, take_all, take_more}
 use Rattle.std.proofs.lemmas.Bool.{ne_eqb}
 use Rattle.stores.specs.Limits.{within_limits}
-use Rattle.spans.specs.Sizes.{sizes_of}
 use Rattle.spans.proofs.Limiting.{few_sheets, size_bound}
 use Rattle.spans.proofs.spans.Spans.new.Goals as goal
 

@@ -1,5 +1,4 @@
-use Rattle.std.proofs.Common.{◌≡◌, ℕ, List, length, ap, ◌∙◌, arith}
-use Rattle.pages.specs.PageStores.{page_memory}
+use Rattle.std.proofs.Common.{ℕ, List, length, ap, ◌∙◌, arith}
 use Rattle.pages.specs.Paging.{all_inside}
 use Rattle.pages.proofs.Paging.{inside_memory, listed_long}
 use Rattle.pages.proofs.pages.calls.PagesStore.read.Goals as goal
