@@ -1,6 +1,6 @@
 use Rattle.std.proofs.Common.{rules}
 use lib.Bits.{bit_and, and_mask}
-use Rattle.orders.specs.Inclusion.{included_mask}
+use Rattle.orders.proofs.Inclusion.{included_mask}
 use Rattle.orders.proofs.compartments.within.Goals as goal
 
 pub returns : goal.returns
