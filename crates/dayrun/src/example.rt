@@ -9,7 +9,7 @@
 //
 // Seat 0 starts with program 2, seat 1 with program 4. The floor is 5, and the store a slab of zeros.
 ghost use Rattle.std.specs.Prelude.{◌≡◌, IfOk, string_bytes};
-ghost use Rattle.dayrun.specs.Example.{register as example-register, example_text};
+ghost use Rattle.dayrun.specs.Example.{register as example_register, example_text};
 
 use crate::day;
 use orders::compartments::Compartments;
@@ -21,6 +21,7 @@ use vault::vault::Vault;
 // How many grades there are.
 pub const RUNGS: u8 = 6;
 
+// The floor that its opening is given.
 pub const FLOOR: u64 = 5;
 
 // The sizes of the sheets.
@@ -47,7 +48,7 @@ const REGISTER: &[u8; 212] = b"\
 
 // The example's register.
 pub fn register() -> &'static [u8]
-    ensures { result.now ≡ example-register }
+    ensures { result.now ≡ example_register }
 {
     REGISTER
 }

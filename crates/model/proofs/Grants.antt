@@ -1,6 +1,6 @@
 -- What an accepted call tells: which rules held, that its seat and its sheet are there, and that its bytes fit.
 use Rattle.std.proofs.Common.{◌≡◌, ℕ, ◌+◌, ◌<◌, ◌≤◌, Bool, true, false, List, length, is_some}
-use Rattle.std.specs.List.{AllByRecursion as All}
+use Rattle.std.specs.List.{AllByRecursion}
 use Rattle.std.proofs.lemmas.Bool.{leb-false, ltb-false, not-false, and_parts}
 use Rattle.refusals.proofs.Testing.{none_fits}
 use Rattle.register.specs.declared.certificate.Certificate.{Certificate}
@@ -34,7 +34,7 @@ module _ (p : Policy) (s : State) where
   pub seated : (c : Call) → accepted p s c ≡ true → seat_of c < length s.seats
   seated c g = leb-false _ _ (none_fits (tests p s c) (numbers (seat_at s (seat_of c)) c) g).1.0
 
-  kind_passed : (c : Call) → accepted p s c ≡ true → All (λ t. t.fits ≡ false) (kind_tests p s.contents (seat_at s (seat_of c)).certificate c)
+  kind_passed : (c : Call) → accepted p s c ≡ true → AllByRecursion (λ t. t.fits ≡ false) (kind_tests p s.contents (seat_at s (seat_of c)).certificate c)
   kind_passed c g = (none_fits (tests p s c) (numbers (seat_at s (seat_of c)) c) g).1.1
 
   pub read_grants : (i k place : ℕ) (buffer : List ℕ) → accepted p s (read i k place buffer) ≡ true →

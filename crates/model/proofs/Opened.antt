@@ -1,7 +1,7 @@
 -- What an accepted opening tells of the vault that it leaves, and so the law of two runs for that vault.
 use Rattle.std.proofs.Common.{◌≡◌, ℕ, zero, suc, ◌<◌, Bool, true, false, ◌&&◌, eqb, List, [], ◌∷◌, map, length, get_or, is_some, is_ok, Some, None, Option, sym, refl, ap, ◌∙◌, subst, ⊎_elim, arith}
 use lib.ListN.{length-map}
-use Rattle.std.specs.List.{AllByRecursion as All, list_all}
+use Rattle.std.specs.List.{AllByRecursion, list_all}
 use Rattle.std.proofs.lemmas.List.FromFn.{length-map-range_with_len, get_or-map-range_with_len}
 use Rattle.std.proofs.lemmas.List.{get_or-map, get_or_past}
 use Rattle.std.proofs.lemmas.Bool.{cases_Bool, cases_lt, false≢true, both_ways, and_parts, or_cases, not-true, not-false, eqb-true, cond-true, cond-false}
@@ -27,7 +27,7 @@ none_some : {A : Type 0} (a : A) → ◌≡◌ {A = Option A} None (Some a) → 
 none_some a e = let z : ◌≡◌ {A = ℕ} 0 1 = cc in omega arith
 
 -- the tests of ranges and of the floor, at each certificate
-all_tested : (p : Policy) (cs : List Certificate) → list_all (in_range p.marks p.grades) cs ≡ true → list_all (floored p.marks p.grades p.floor) cs ≡ true → All (Tested p) cs
+all_tested : (p : Policy) (cs : List Certificate) → list_all (in_range p.marks p.grades) cs ≡ true → list_all (floored p.marks p.grades p.floor) cs ≡ true → AllByRecursion (Tested p) cs
 all_tested p [] r w = tt
 all_tested p (c ∷ cs) r w =
     let rs = and_parts _ _ r in
@@ -42,7 +42,7 @@ all_tested p (c ∷ cs) r w =
     )
 
 -- a certificate that is found is one of them
-found_tested : (p : Policy) (cs : List Certificate) (k : ℕ) (d : Certificate) → All (Tested p) cs → certificate_in cs k ≡ Some d → Tested p d
+found_tested : (p : Policy) (cs : List Certificate) (k : ℕ) (d : Certificate) → AllByRecursion (Tested p) cs → certificate_in cs k ≡ Some d → Tested p d
 found_tested p [] k d all e = absurd (none_some d e)
 found_tested p (c ∷ cs) k d all e =
     ⊎_elim
@@ -55,7 +55,7 @@ pass_at test [] i d h e = absurd (omega arith)
 pass_at test (x ∷ xs) zero d h e = (and_parts _ _ e).0
 pass_at test (x ∷ xs) (suc i) d h e = pass_at test xs i d (omega arith) (and_parts _ _ e).1
 
-held_tested : (p : Policy) (cs : List Certificate) (k : ℕ) (o : Option Certificate) → All (Tested p) cs → certificate_in cs k ≡ o → is_some o ≡ true → Tested p (held o)
+held_tested : (p : Policy) (cs : List Certificate) (k : ℕ) (o : Option Certificate) → AllByRecursion (Tested p) cs → certificate_in cs k ≡ o → is_some o ≡ true → Tested p (held o)
 held_tested p cs k None all e h = absurd (false≢true h)
 held_tested p cs k (Some d) all e h = found_tested p cs k d all e
 
@@ -69,7 +69,7 @@ sizes_same (c ∷ cs) (e ∷ es) h =
     ap (λ n. n ∷ map length cs) (eqb-true _ _ p.0) ∙ ap (λ r. e.size ∷ r) (sizes_same cs es p.1)
 
 -- the sheets' certificates are those of the table
-sheet_tested : (p : Policy) (b : Book) → p.sheets ≡ first_sheets b → All (Tested p) b.certificates → AllTested p
+sheet_tested : (p : Policy) (b : Book) → p.sheets ≡ first_sheets b → AllByRecursion (Tested p) b.certificates → AllTested p
 sheet_tested p b e all k d h =
     let n = length b.entries in
     let there : (get_or (first_sheets b) k blank_sheet).certificate ≡ Some d = ap (λ l. (get_or l k blank_sheet).certificate) (sym e) ∙ h in
@@ -86,10 +86,10 @@ module _ (marks grades : Order) (bs : List ℕ) (floor : ℕ) where
   register_sizes = map (λ e. e.size) (decoded bs).entries
 
   module _ (contents : List (List ℕ)) (ok : is_ok (opening marks grades bs floor contents false) ≡ true) where
-    passed : All (λ t. t.fits ≡ false) (opening_tests marks grades bs floor contents false)
+    passed : AllByRecursion (λ t. t.fits ≡ false) (opening_tests marks grades bs floor contents false)
     passed = none_fits (opening_tests marks grades bs floor contents false) (decoded bs) ok
 
-    table_tested : All (Tested (fixed marks grades (decoded bs) floor)) (decoded bs).certificates
+    table_tested : AllByRecursion (Tested (fixed marks grades (decoded bs) floor)) (decoded bs).certificates
     table_tested = all_tested (fixed marks grades (decoded bs) floor) (decoded bs).certificates (not-false _ passed.1.1.1.1.1.1.0) (not-false _ passed.1.1.1.1.1.1.1.0)
 
     certificates_tested : AllTested (fixed marks grades (decoded bs) floor)

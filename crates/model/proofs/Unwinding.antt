@@ -2,7 +2,7 @@
 use Rattle.std.proofs.Common.{◌≡◌, ℕ, ◌+◌, ◌<◌, ◌≤◌, true, false, cond, not, ltb, leb, List, [], ◌∷◌, ◌++◌, map, length, get_or, take, drop, is_some, is_ok, Some, None, Ok, Err, Option, sym, refl, ap, ◌∙◌, subst, ⊎_elim, arith, length-append, length-drop, length-set, length-take, get_or-set_other, get_or-set_same}
 use lib.ListN.{length-map, get_or-map}
 use lib.Seq.{map-set_same}
-use Rattle.std.specs.List.{AllByRecursion as All}
+use Rattle.std.specs.List.{AllByRecursion}
 use Rattle.std.proofs.lemmas.Bool.{cases_Bool, cases_eq, false≢true, both_ways, ltb-true, lt-ltb, lt-leb, and_parts, and_from, and_cases, or_parts, or_cases, not-false, cond-true, cond-false}
 use Rattle.refusals.specs.Refusals.{on, checked}
 use Rattle.refusals.specs.declared.refusal.Refusal.TheVariants.{Closed, NoSeat, NoSheet, PastEnd}
@@ -340,10 +340,10 @@ module _ (p : Policy) (all : AllTested p) (zs : List ℕ) where
         (hand_grants p s i k slip g).mark (and_parts _ _ (and_parts _ _ q).1).0
     floored_call s (tell i) so g q = absurd (false≢true q)
 
-    pub all_floored : (cs : List Call) (s : State) → Sound p zs s → All (Floored p v) (releases p v s cs)
+    pub all_floored : (cs : List Call) (s : State) → Sound p zs s → AllByRecursion (Floored p v) (releases p v s cs)
     all_floored [] s so = tt
     all_floored (c ∷ cs) s so = let ih = all_floored cs (after p s c) (sound_after s c so) in ⊎_elim
         (λ h. let r = and_parts _ _ (and_parts _ _ h).1 in
-        subst (All (Floored p v)) (sym (cond-true _ _ _ h)) (floored_call s c so r.0 r.1, ih))
-        (λ h. subst (All (Floored p v)) (sym (cond-false _ _ _ h)) ih)
+        subst (AllByRecursion (Floored p v)) (sym (cond-true _ _ _ h)) (floored_call s c so r.0 r.1, ih))
+        (λ h. subst (AllByRecursion (Floored p v)) (sym (cond-false _ _ _ h)) ih)
         (cases_Bool (release p v (turn s c)))

@@ -1,5 +1,5 @@
 -- What an opening fixes, and what calls change.
-use Rattle.std.specs.Prelude.{ℕ, Bool, List, [], map, length, get_or, Some, None, Option, slice_index_or, slice_set}
+use Rattle.std.specs.Prelude.{ℕ, Bool, List, [], map, length, Some, None, Option, slice_index_or, slice_set}
 use Rattle.register.specs.Certificates.{blank_label, blank_certificate}
 use Rattle.register.specs.declared.label.Label.{Label}
 use Rattle.register.specs.declared.certificate.Certificate.{Certificate}
@@ -35,11 +35,11 @@ held (Some c) = c
 module _ (p : Policy) where
   -- the mark and the grade of sheet k
   abbrev pub label_of : ℕ → Label
-  label_of k = (get_or p.sheets k blank_sheet).label
+  label_of k = (slice_index_or p.sheets k blank_sheet).label
 
   -- the certificate of sheet k, where it is a certified program
   abbrev pub certificate_of : ℕ → Option Certificate
-  certificate_of k = (get_or p.sheets k blank_sheet).certificate
+  certificate_of k = (slice_index_or p.sheets k blank_sheet).certificate
 
 module _ (s : State) where
   -- the record of seat i

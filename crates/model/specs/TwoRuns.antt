@@ -1,6 +1,6 @@
 -- The law of two runs: what a view can learn of two vaults opened alike, and which releases reach it.
 use Rattle.std.specs.Prelude.{◌≡◌, ℕ, Bool, true, false, not, ◌&&◌, ◌||◌, List, map, length, is_some, is_ok, filter, nat_lt}
-use Rattle.std.specs.List.{AllByRecursion as All}
+use Rattle.std.specs.List.{AllByRecursion}
 use Rattle.register.specs.Layout.{decoded}
 use Rattle.register.specs.declared.label.Label.{Label}
 use Rattle.register.specs.declared.certificate.Certificate.{Certificate}
@@ -88,7 +88,7 @@ pub record TwoRuns (p : Policy) (s t : State) : Type 0 where
   pub alike : (v : Label) → SameSheets p v s t → (cs ds : List Call) → kept p v s cs ≡ kept p v t ds →
       (replies p v s cs ≡ replies p v t ds) × Alike p v (final p s cs) (final p t ds)
   -- each release from above the view's mark is made at or above the floor, in either run
-  pub floored : (v : Label) (cs ds : List Call) → All (Floored p v) (releases p v s cs) × All (Floored p v) (releases p v t ds)
+  pub floored : (v : Label) (cs ds : List Call) → AllByRecursion (Floored p v) (releases p v s cs) × AllByRecursion (Floored p v) (releases p v t ds)
 
 -- the register opens a closed vault over these contents, with the orders and the floor of the policy
 abbrev pub Opens : Policy → List ℕ → List (List ℕ) → Type 0

@@ -20,7 +20,8 @@ implies_self false = refl
 
 implies_trans : (x y z : Bool) → implies x y ≡ true → implies y z ≡ true → implies x z ≡ true
 implies_trans true true z p q = q
-implies_trans true false z p q = cc
+implies_trans true false true p q = refl
+implies_trans true false false p q = p
 implies_trans false y z p q = refl
 
 pub included_self : (a : ℕ) → included a a ≡ true

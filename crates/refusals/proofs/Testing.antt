@@ -1,6 +1,6 @@
 -- What tests in a row come to: one after the other, and all of them.
 use Rattle.std.proofs.Common.{◌≡◌, ℕ, true, false, List, [], ◌∷◌, ◌++◌, is_ok, Ok, Err, Result, sym, refl, ap, ◌∙◌, ⊎_elim, arith}
-use Rattle.std.specs.List.{AllByRecursion as All}
+use Rattle.std.specs.List.{AllByRecursion}
 use Rattle.std.proofs.lemmas.Bool.{cases_Bool, false≢true, cond-true, cond-false}
 use Rattle.refusals.specs.Refusals.{Test, checked}
 use Rattle.refusals.specs.declared.refusal.Refusal.{Refusal}
@@ -9,7 +9,7 @@ ok_err : {A E : Type 0} (x : A) (e : E) → ◌≡◌ {A = Result A E} (Ok x) (E
 ok_err x e h = let z : ◌≡◌ {A = ℕ} 0 1 = cc in omega arith
 
 -- no test of what is accepted fits, and the answer is the value
-pub none_fits : {A : Type 0} (ts : List Test) (a : A) → is_ok (checked ts a) ≡ true → All (λ t. t.fits ≡ false) ts
+pub none_fits : {A : Type 0} (ts : List Test) (a : A) → is_ok (checked ts a) ≡ true → AllByRecursion (λ t. t.fits ≡ false) ts
 none_fits [] a h = tt
 none_fits (t ∷ ts) a h =
     ⊎_elim (λ e. absurd (false≢true (rw e at h))) (λ e. (e, none_fits ts a (rw e at h))) (cases_Bool t.fits)

@@ -22,13 +22,15 @@ pub trait Row: Copy {
         ensures { result ≡ many layout };
 
     fn read(layout: Layout, bytes: &[u8], i: usize) -> Self
-        requires { (length bytes.now ≡ whole_length layout) × (i < many layout) }
+        requires whole { length bytes.now ≡ whole_length layout }
+        requires there { i < many layout }
         ensures { result ≡ placed layout bytes.now i };
 }
 
 // The label at place i among all labels.
 fn label(layout: Layout, bytes: &[u8], i: usize) -> Label
-    requires { (length bytes.now ≡ whole_length layout) × (i < label_count layout) }
+    requires whole { length bytes.now ≡ whole_length layout }
+    requires there { i < label_count layout }
     ensures { result ≡ label_at layout bytes.now i }
 {
     Label {
@@ -90,7 +92,8 @@ impl Row for u16 {
 
 // A table with the rows that the bytes have in front, and blanks after them.
 pub fn table<R: Row, const N: usize>(blank: R, layout: Layout, bytes: &[u8]) -> [R; N]
-    requires { (length bytes.now ≡ whole_length layout) × (R.Row.many layout ≤ N) }
+    requires whole { length bytes.now ≡ whole_length layout }
+    requires room { R.Row.many layout ≤ N }
     ensures rows { take (R.Row.many layout) result ≡ map (R.Row.placed layout bytes.now) (range_with_len 0 (R.Row.many layout)) }
     ensures size { length result ≡ N }
 {

@@ -44,22 +44,22 @@ abbrev pub answer_of : Result Book Refusal → Result (Unit {0}) Refusal
 answer_of = result_map_both (λ b. tt) (λ e. e)
 
 -- a vault just made
-pub record Closed {M G S : Type 0} (its-marks : M) (its-grades : G) (its-store : S) (v : Vault M G S) : Type 0 where
-  pub marks : v.marks ≡ its-marks
-  pub grades : v.grades ≡ its-grades
-  pub store : v.store ≡ its-store
+pub record Closed {M G S : Type 0} (its_marks : M) (its_grades : G) (its_store : S) (v : Vault M G S) : Type 0 where
+  pub marks : v.marks ≡ its_marks
+  pub grades : v.grades ≡ its_grades
+  pub store : v.store ≡ its_store
   pub is_open : v.«open» ≡ false
   pub floor : v.floor ≡ 0
   pub sheets : rows_of v.sheets ≡ []
   pub seats : rows_of v.seats ≡ []
 
 -- the vault w that an accepted opening of v leaves
-pub record Opened {M G S : Type 0} (v : Vault M G S) (its-floor : ℕ) (b : Book) (w : Vault M G S) : Type 0 where
+pub record Opened {M G S : Type 0} (v : Vault M G S) (its_floor : ℕ) (b : Book) (w : Vault M G S) : Type 0 where
   pub marks : w.marks ≡ v.marks
   pub grades : w.grades ≡ v.grades
   pub store : w.store ≡ v.store
   pub is_open : w.«open» ≡ true
-  pub floor : w.floor ≡ its-floor
+  pub floor : w.floor ≡ its_floor
   pub sheets : rows_of w.sheets ≡ first_sheets b
   pub seats : rows_of w.seats ≡ first_seats b
 

@@ -1,7 +1,7 @@
 // The vault: its opening, and the five calls of a seat.
 
 ghost use Rattle.std.specs.Prelude.{◌≡◌, Ok};
-ghost use Rattle.model.specs.Calls.{Call, read as reading, write as writing, run as running, hand as handing, tell as telling};
+ghost use Rattle.model.specs.Calls.{read as reading, write as writing, run as running, hand as handing, tell as telling};
 ghost use Rattle.model.specs.Rules.{answer, after, reply};
 ghost use Rattle.model.specs.TwoRuns.{Law};
 ghost use Rattle.vault.specs.Meaning.{policy, state, told, done, opening_of, answer_of, Left, Closed, Kept, SizesStay};

@@ -1,5 +1,5 @@
 // Copies between a caller's bytes and the listed pages of a memory, which are read and written as if they stood end to end.
-ghost use Rattle.std.specs.Prelude.{◌≡◌, ℕ, ◌+◌, ◌-◌, ◌*◌, ◌/◌, ◌%◌, ◌<◌, ◌≤◌, min, true, length, take, drop, vec_len, slice_index};
+ghost use Rattle.std.specs.Prelude.{◌≡◌, ◌+◌, ◌-◌, ◌*◌, ◌/◌, ◌%◌, ◌<◌, ◌≤◌, min, true, length, take, drop, vec_len, slice_index};
 ghost use Rattle.stores.specs.Splices.{spliced};
 ghost use Rattle.pages.specs.Paging.{all_inside, gathered, none_twice, OthersSame};
 

@@ -17,5 +17,5 @@ pub loop-i-preserved : goal.loop-i-preserved
 loop-i-preserved g c = (
   length-set c.loop-i.table c.loop-i.i c.read.result ∙ c.loop-i.invariant.0,
   ap (λ x. take (c.loop-i.i + 1) (set c.loop-i.table c.loop-i.i x)) c.read.ensures
-      ∙ filled_more (g.R.Row.placed c.args.layout c.args.bytes.now) c.loop-i.table c.loop-i.i (omega (arith, c.loop-i.invariant.0, c.requires.1)) c.loop-i.invariant.1,
+      ∙ filled_more (g.R.Row.placed c.args.layout c.args.bytes.now) c.loop-i.table c.loop-i.i (omega (arith, c.loop-i.invariant.0, c.requires.room)) c.loop-i.invariant.1,
 )
