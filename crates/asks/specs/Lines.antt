@@ -93,11 +93,11 @@ letter name = slice_index (codes name) 0
 -- the fields after the letters r, w, x, h and t
 abbrev pub lettered : ℕ → List ℕ → Option Call
 lettered b text =
-    cond (b == (letter "r")) (buffered read text)
-    (cond (b == (letter "w")) (writing text)
-    (cond (b == (letter "x")) (buffered run text)
-    (cond (b == (letter "h")) (handing text)
-    (cond (b == (letter "t")) (telling text) None))))
+    cond (b == letter "r") (buffered read text)
+    (cond (b == letter "w") (writing text)
+    (cond (b == letter "x") (buffered run text)
+    (cond (b == letter "h") (handing text)
+    (cond (b == letter "t") (telling text) None))))
 
 -- a letter and its fields
 abbrev pub begun : List ℕ → Option Call

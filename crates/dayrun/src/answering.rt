@@ -67,7 +67,7 @@ fn answer_ask<M: Order, G: Order, S: Store>(
     out: &mut String,
     ask: Ask<'_>,
 ) -> fmt::Result
-    requires { buffer_size (ask) ≤ 64 }
+    requires { buffer_size ask ≤ 64 }
     ensures bytes { OnOk result (string_bytes out.new ≡ string_bytes out.old ++ ended (call_text (policy M.Order G.Order vault.old) (state S.Store vault.old) (call ask.entry))) }
     ensures after { state S.Store vault.new ≡ after (policy M.Order G.Order vault.old) (state S.Store vault.old) (call ask.entry) }
     ensures kept { Kept vault.old vault.new }

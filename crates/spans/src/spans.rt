@@ -1,5 +1,5 @@
 // Where the sheets of a store stand in a memory that is cut into units of `UNIT` bytes: one after the other, in number
-// order, each from the start of a unit on. A slab's unit is one byte, a page store's one page.
+// order, each from the start of a unit on. A page store's unit is one page; with units of one byte they stand end to end.
 ghost use Rattle.std.specs.Prelude.{◌≡◌, ◌≤◌, true, length, take, sum_by};
 ghost use Rattle.stores.specs.Limits.{small};
 ghost use Rattle.spans.specs.Rooms.{room};

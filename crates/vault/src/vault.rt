@@ -1,5 +1,4 @@
 // The vault: its opening, and the five calls of a seat.
-
 ghost use Rattle.std.specs.Prelude.{◌≡◌, Ok};
 ghost use Rattle.model.specs.Calls.{read as reading, write as writing, run as running, hand as handing, tell as telling};
 ghost use Rattle.model.specs.Rules.{answer, after, reply};
