@@ -4,8 +4,9 @@
 usage: python3 tools/spell_names.py [FOLDER]      once, on the text that the kit's own scripts have turned; FOLDER has crates/
 
 It renames what crates/*/specs and crates/*/proofs declare (definitions, lemmas, fields, constructors), and nothing that the
-check makes from the code, wherever the name stands as a whole word: in specs, proofs, clauses, and must-fail edits.
-Functions of src/, strings, inputs and outputs keep their names.
+check makes from the code, wherever the name stands as a whole word outside comments: in specs, proofs, clauses, and must-fail
+edits. Functions of src/ have no dash, so they keep their names; so do inputs and outputs, which it does not read. It says which
+new names stood already, beside which: read those places before you commit.
 """
 
 import os
@@ -54,6 +55,9 @@ def declared(top):
 
 def main(top):
     names = {n: spelled(n) for n in declared(top)}
+    if not names:
+        print("0 names")
+        return
     taken = {}
     for old, new in names.items():
         if new in taken:

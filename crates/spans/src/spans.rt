@@ -11,7 +11,7 @@ mod calls;
 mod making;
 mod span;
 
-// The limits of every store: its sheets, and the bytes of one.
+// The limits of a store: its sheets, and the bytes of one.
 const MOST_SHEETS: usize = 64;
 
 const MOST_BYTES: u32 = 4096;
