@@ -1,4 +1,5 @@
 -- The day at the example vault: its register opens it over a store of zeros, and says what the table says.
+use Rattle.std.specs.Option.{is_some}
 use Rattle.std.proofs.Common.{◌≡◌, ℕ, false, List, [], ◌∷◌, replicate, Ok, refl, ap, ◌∙◌}
 use Rattle.orders.specs.Compartments as compartments
 use Rattle.orders.specs.Compartments.{included}
@@ -34,8 +35,8 @@ pub slab_of_zeros : made_sheets (8 ∷ 8 ∷ 4 ∷ 4 ∷ 4 ∷ []) (replicate 28
 slab_of_zeros = refl
 
 -- the day at the example vault over any store of zeros
-pub example_day : {S : Type 0} (storing : Storage S) (v : Vault Compartments Ladder S) (l : Ladder) (bs input : List ℕ) → v.grades ≡ l → l.rungs ≡ 6 →
-    storing.sheets v.store ≡ zeros → v.«open» ≡ false → bs ≡ register → day_text marking grading storing v bs floor input ≡ example_text input
+pub example_day : {S : Type 0} (storing : Storage S) (v : Vault Compartments Ladder S) (l : Ladder) (bs input : List ℕ) → v.orders.grades ≡ l → l.rungs ≡ 6 →
+    storing.sheets v.store ≡ zeros → is_some v.opening ≡ false → bs ≡ register → day_text marking grading storing v bs floor input ≡ example_text input
 example_day storing v l bs input el er es eo eb =
     ap (λ b. day_text marking grading storing v b floor input) eb
     ∙ opened_day marking grading storing v register input floor marks grades zeros book refl

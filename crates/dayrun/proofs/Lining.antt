@@ -1,4 +1,5 @@
 -- The text of a day, line by line: the opening, one line more, and the end.
+use Rattle.std.specs.Option.{is_some}
 use Rattle.std.proofs.Common.{◌≡◌, ℕ, false, List, [], ◌∷◌, ◌++◌, map, Some, None, Ok, Err, Option, Result, sym, refl, ap, ◌∙◌, append_assoc, append-nil}
 use Rattle.orders.specs.declared.order.Order.{Ghosts as Ordering}
 use Rattle.stores.specs.declared.store.Store.{Ghosts as Storage}
@@ -14,7 +15,6 @@ use Rattle.asks.specs.Replies.{line_text}
 use Rattle.asks.specs.declared.answer.Answer.TheVariants.{Opened}
 use Rattle.vault.specs.Meaning.{policy, state, opening_of, answer_of, Left, Kept}
 use Rattle.vault.specs.declared.vault.Vault.{Vault}
-use Rattle.opening.specs.Tables.{rows_of}
 use Rattle.dayrun.specs.Days.{ended, asks_of, asks_text, printed, opening_number, opened_policy, opened_state, day_text}
 use Rattle.dayrun.specs.Steps.{ask_text, ask_after}
 
@@ -45,7 +45,7 @@ same_policy m g v w k = λ j. record {
   grades = order g (k.grades j);
   is_open = k.is_open j;
   floor = k.floor j;
-  sheets = rows_of (k.sheets j);
+  sheets = k.sheets j;
 }
 
 -- what an opening leaves is what the day goes on with
@@ -73,17 +73,17 @@ module _ {M G S : Type 0} (m : Ordering M) (g : Ordering G) (s : Storage S) (v w
 
 -- a day that begins with an accepted opening of a closed vault
 pub opened_day : {M G S : Type 0} (m : Ordering M) (g : Ordering G) (s : Storage S) (v : Vault M G S) (bs input : List ℕ) (floor : ℕ) (marks grades : Order) (contents : List (List ℕ)) (b : Book) →
-    order m v.marks ≡ marks → order g v.grades ≡ grades → s.sheets v.store ≡ contents → v.«open» ≡ false → opening marks grades bs floor contents false ≡ Ok b →
+    order m v.orders.marks ≡ marks → order g v.orders.grades ≡ grades → s.sheets v.store ≡ contents → is_some v.opening ≡ false → opening marks grades bs floor contents false ≡ Ok b →
     day_text m g s v bs floor input ≡ ended (line_text (Opened 0)) ++ printed (fixed marks grades b floor) (started b contents) input
 opened_day m g s v bs input floor marks grades contents b em eg es eo ok =
     ap (λ o. ended (line_text (Opened (opening_number (answer_of o)))) ++ printed (opened_policy m g s v floor o) (opened_state m g s v o) input) opens
-    ∙ ap (λ x. ended (line_text (Opened 0)) ++ printed (fixed x (order g v.grades) b floor) (started b (s.sheets v.store)) input) em
+    ∙ ap (λ x. ended (line_text (Opened 0)) ++ printed (fixed x (order g v.orders.grades) b floor) (started b (s.sheets v.store)) input) em
     ∙ ap (λ x. ended (line_text (Opened 0)) ++ printed (fixed marks x b floor) (started b (s.sheets v.store)) input) eg
     ∙ ap (λ x. ended (line_text (Opened 0)) ++ printed (fixed marks grades b floor) (started b x) input) es
   where
     opens : opening_of m g s v bs floor ≡ Ok b
     opens =
-        ap (λ x. opening x (order g v.grades) bs floor (s.sheets v.store) v.«open») em
-        ∙ ap (λ x. opening marks x bs floor (s.sheets v.store) v.«open») eg
-        ∙ ap (λ x. opening marks grades bs floor x v.«open») es
+        ap (λ x. opening x (order g v.orders.grades) bs floor (s.sheets v.store) (is_some v.opening)) em
+        ∙ ap (λ x. opening marks x bs floor (s.sheets v.store) (is_some v.opening)) eg
+        ∙ ap (λ x. opening marks grades bs floor x (is_some v.opening)) es
         ∙ ap (opening marks grades bs floor contents) eo ∙ ok

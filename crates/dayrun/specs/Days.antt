@@ -56,7 +56,7 @@ opening_number (Err e) = number_of e
 module _ {M G S : Type 0} (m : Ordering M) (g : Ordering G) (s : Storage S) (v : Vault M G S) where
   -- the policy that an opening leaves
   abbrev pub opened_policy : ℕ → Result Book Refusal → Policy
-  opened_policy floor (Ok b) = fixed (order m v.marks) (order g v.grades) b floor
+  opened_policy floor (Ok b) = fixed (order m v.orders.marks) (order g v.orders.grades) b floor
   opened_policy floor (Err e) = policy m g v
 
   -- the seats and sheets that it leaves

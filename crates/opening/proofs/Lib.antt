@@ -1,4 +1,3 @@
 pub mod Admitting
-pub mod Counting
 pub mod Filling
 pub mod Sizes

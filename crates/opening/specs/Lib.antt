@@ -1,3 +1,3 @@
-pub mod Tables
 pub mod Tests
 pub mod Admission
+pub mod Rows

@@ -1,21 +1,12 @@
 -- The tests of an opening, part by part.
-use Rattle.std.specs.Prelude.{ℕ, Bool, not, List, [], ◌∷◌}
+use Rattle.std.specs.Prelude.{ℕ, not, List, [], ◌∷◌}
 use Rattle.std.specs.List.{list_all}
 use Rattle.refusals.specs.Refusals.{Test, on}
 use Rattle.refusals.specs.declared.refusal.Refusal.TheVariants.{Numbers, NoClass, Range, UnderFloor, OtherStore}
 use Rattle.register.specs.Numbers.{numbers_sound}
 use Rattle.register.specs.Tables.{Book}
-use Rattle.register.specs.declared.certificate.Certificate.{Certificate}
 use Rattle.model.specs.Orders.{Order}
-use Rattle.model.specs.Opening.{certificate_classed, all_classed, in_range, floored, same_sizes}
-use Rattle.opening.specs.declared.checks.CertificateTest.{CertificateTest}
-use Rattle.opening.specs.declared.checks.CertificateTest.TheVariants.{Classes, Ranges, Floor}
-
--- whether a certificate passes a test
-abbrev pub passes : Order → Order → CertificateTest → (Certificate → Bool)
-passes marks grades Classes = certificate_classed marks grades
-passes marks grades Ranges = in_range marks grades
-passes marks grades (Floor floor) = floored marks grades floor
+use Rattle.model.specs.Opening.{all_classed, in_range, floored, same_sizes}
 
 -- the tests of an opening that follow those of the register's form
 abbrev pub later_tests : Order → Order → List (List ℕ) → Book → ℕ → List Test

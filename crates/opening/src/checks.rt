@@ -2,10 +2,10 @@
 ghost use Rattle.std.specs.Prelude.{◌≡◌};
 ghost use Rattle.std.specs.List.{list_all};
 ghost use Rattle.register.specs.Tables.{book_of};
-ghost use Rattle.model.specs.Opening.{classed, all_classed, entry_classed, same_sizes};
-ghost use Rattle.opening.specs.Tests.{passes};
+ghost use Rattle.model.specs.Opening.{classed, entry_classed, certificate_classed, all_classed, in_range, floored, same_sizes};
 ghost use Rattle.model.specs.Orders.{order};
 
+use access::Orders;
 use orders::order::Order;
 use register::certificate::Certificate;
 use register::entry::Entry;
@@ -13,106 +13,74 @@ use register::label::Label;
 use register::tables::Register;
 use stores::store::Store;
 
-// What is tested of each certificate.
-#[derive(Clone, Copy)]
-pub enum CertificateTest {
-    // Its marks and grades are classes.
-    Classes,
-    // It writes at or below its reading mark, and at or above its reading grade.
-    Ranges,
-    // If it is ranged in marks, it writes at or above this floor.
-    Floor(u64),
-}
-
 // Whether the mark is a class of the marks, and the grade one of the grades.
-fn is_classed<M: Order, G: Order>(marks: &M, grades: &G, label: Label) -> bool
-    ensures { result ≡ classed (order M.Order marks.now) (order G.Order grades.now) label }
+fn is_classed<M: Order, G: Order>(orders: &Orders<M, G>, label: Label) -> bool
+    ensures { result ≡ classed (order M.Order orders.now.marks) (order G.Order orders.now.grades) label }
 {
-    marks.is_class(label.mark) && grades.is_class(label.grade)
+    orders.marks.is_class(label.mark) && orders.grades.is_class(label.grade)
 }
 
-fn entries_classed<M: Order, G: Order>(marks: &M, grades: &G, entries: &[Entry]) -> bool
-    ensures { result ≡ list_all (entry_classed (order M.Order marks.now) (order G.Order grades.now)) entries.now }
+// Whether the label of each sheet is.
+fn are_entries_classed<M: Order, G: Order>(orders: &Orders<M, G>, entries: &[Entry]) -> bool
+    ensures { result ≡ list_all (entry_classed (order M.Order orders.now.marks) (order G.Order orders.now.grades)) entries.now }
 {
-    for e in entries {
-        if !is_classed(marks, grades, e.label) {
-            return false;
-        }
-    }
-    true
+    entries.iter().all(|e| is_classed(orders, e.label))
 }
 
-// Whether a certificate passes a test.
-fn certificate_passes<M: Order, G: Order>(
-    marks: &M,
-    grades: &G,
-    test: CertificateTest,
-    c: Certificate,
-) -> bool
-    ensures { result ≡ passes (order M.Order marks.now) (order G.Order grades.now) test c }
-{
-    match test {
-        CertificateTest::Classes => {
-            is_classed(marks, grades, c.reading) && is_classed(marks, grades, c.writing)
-        }
-        CertificateTest::Ranges => {
-            marks.at_or_below(c.writing.mark, c.reading.mark)
-                && grades.at_or_below(c.reading.grade, c.writing.grade)
-        }
-        CertificateTest::Floor(floor) => {
-            marks.at_or_below(c.reading.mark, c.writing.mark)
-                || grades.at_or_below(floor, c.writing.grade)
-        }
-    }
-}
-
-// Whether every certificate passes a test.
-pub fn certificates_pass<M: Order, G: Order>(
-    marks: &M,
-    grades: &G,
-    test: CertificateTest,
+// Whether both labels of each certificate are.
+fn are_certificates_classed<M: Order, G: Order>(
+    orders: &Orders<M, G>,
     certificates: &[Certificate],
 ) -> bool
-    ensures { result ≡ list_all (passes (order M.Order marks.now) (order G.Order grades.now) test) certificates.now }
+    ensures { result ≡ list_all (certificate_classed (order M.Order orders.now.marks) (order G.Order orders.now.grades)) certificates.now }
 {
-    for c in certificates {
-        if !certificate_passes(marks, grades, test, *c) {
-            return false;
-        }
-    }
-    true
+    certificates.iter().all(|c| is_classed(orders, c.reading) && is_classed(orders, c.writing))
 }
 
 // Whether every mark, every grade and the floor is a class of its order.
 pub fn are_all_classed<M: Order, G: Order>(
-    marks: &M,
-    grades: &G,
+    orders: &Orders<M, G>,
     register: &Register,
     floor: u64,
 ) -> bool
-    ensures { result ≡ all_classed (order M.Order marks.now) (order G.Order grades.now) (book_of register.now) floor }
+    ensures { result ≡ all_classed (order M.Order orders.now.marks) (order G.Order orders.now.grades) (book_of register.now) floor }
 {
-    entries_classed(marks, grades, register.entries())
-        && certificates_pass(
-            marks,
-            grades,
-            CertificateTest::Classes,
-            register.certificates(),
-        )
-        && grades.is_class(floor)
+    are_entries_classed(orders, register.entries())
+        && are_certificates_classed(orders, register.certificates())
+        && orders.grades.is_class(floor)
+}
+
+// Whether each certificate writes at or below its reading mark, and at or above its reading grade.
+pub fn are_in_range<M: Order, G: Order>(orders: &Orders<M, G>, certificates: &[Certificate]) -> bool
+    ensures { result ≡ list_all (in_range (order M.Order orders.now.marks) (order G.Order orders.now.grades)) certificates.now }
+{
+    certificates.iter().all(|c| {
+        orders.marks.at_or_below(c.writing.mark, c.reading.mark)
+            && orders.grades.at_or_below(c.reading.grade, c.writing.grade)
+    })
+}
+
+// Whether each certificate that is ranged in marks writes at or above the floor.
+pub fn are_floored<M: Order, G: Order>(
+    orders: &Orders<M, G>,
+    certificates: &[Certificate],
+    floor: u64,
+) -> bool
+    ensures { result ≡ list_all (floored (order M.Order orders.now.marks) (order G.Order orders.now.grades) floor) certificates.now }
+{
+    certificates.iter().all(|c| {
+        orders.marks.at_or_below(c.reading.mark, c.writing.mark)
+            || orders.grades.at_or_below(floor, c.writing.grade)
+    })
 }
 
 // Whether the store has these sheets, in their sizes.
 pub fn sizes_agree<S: Store>(store: &S, entries: &[Entry]) -> bool
     ensures { result ≡ same_sizes (S.Store.sheets store.now) entries.now }
 {
-    if store.count() as usize != entries.len() {
-        return false;
-    }
-    for (k, e) in entries.iter().enumerate() {
-        if store.size(k as u16) != e.size {
-            return false;
-        }
-    }
-    true
+    let count = store.count();
+    usize::from(count) == entries.len()
+        && (0..count)
+            .zip(entries)
+            .all(|(k, e)| store.size(k) == e.size)
 }

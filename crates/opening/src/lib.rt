@@ -1,8 +1,7 @@
-// What an opening tests, and the tables that an accepted one makes.
+// What an opening tests, and what an accepted one keeps.
 #![tactic(auto)]
 
 pub mod admission;
 mod checks;
 mod making;
-mod rows;
-pub mod table;
+pub mod opening;

@@ -5,7 +5,7 @@ ghost use Rattle.register.specs.Certificates.{certificate_in};
 use crate::label::{BLANK_LABEL, Label};
 
 // The number of a program's sheet, with the labels that the program reads and writes at.
-#[derive(Clone, Copy)]
+#[derive(Clone, Copy, Default)]
 pub struct Certificate {
     pub program: u16,
     pub reading: Label,

@@ -2,7 +2,7 @@
 use crate::label::{BLANK_LABEL, Label};
 
 // The size of a sheet in bytes, and its label.
-#[derive(Clone, Copy)]
+#[derive(Clone, Copy, Default)]
 pub struct Entry {
     pub size: u32,
     pub label: Label,

@@ -1,34 +1,30 @@
 // The vault: its opening, and the five calls of a seat.
 ghost use Rattle.std.specs.Prelude.{◌≡◌, Ok};
+ghost use Rattle.std.specs.Result.{result_map_both};
 ghost use Rattle.model.specs.Calls.{read as reading, write as writing, run as running, hand as handing, tell as telling};
 ghost use Rattle.model.specs.Rules.{answer, after, reply};
 ghost use Rattle.model.specs.TwoRuns.{Law};
 ghost use Rattle.vault.specs.Meaning.{policy, state, told, done, opening_of, answer_of, Left, Closed, Kept, SizesStay};
 ghost use Rattle.refusals.specs.Refusals.{checked};
-ghost use Rattle.model.specs.States.{seat_at, held, certificate_of};
-ghost use Rattle.vault.specs.Parts.{caller_of, sheet_of, read_front, write_front, run_front, hand_front};
+ghost use Rattle.model.specs.States.{seat_at, held, certificate_of, with_seat};
+ghost use Rattle.vault.specs.Parts.{opening_kept, read_front, write_front, run_front, hand_front};
 
-use model::seat::{BLANK_SEAT, Seat};
-use model::sheet::{BLANK_SHEET, Sheet};
+use access::Orders;
+use model::seat::Seat;
 use opening::admission;
-use opening::table::Table;
+use opening::opening::Opening;
 use orders::order::Order;
 use refusals::refusal::Refusal;
 use register::certificate::Certificate;
-use register::tables::{MOST_SEATS, MOST_SHEETS};
 use stores::store::Store;
 
-// A vault over an order of marks, an order of grades and a store. An opening sets `open`, `floor`, `sheets` and `seats`;
-// calls change the seats and the store alone.
+// A vault over an order of marks, an order of grades and a store. Calls change the store and the opening's seats alone.
 #[derive(Drop)]
 pub struct Vault<M, G, S> {
-    marks: M,
-    grades: G,
+    orders: Orders<M, G>,
     store: S,
-    open: bool,
-    floor: u64,
-    sheets: Table<Sheet, MOST_SHEETS>,
-    seats: Table<Seat, MOST_SEATS>,
+    // What the opening kept; nothing in a vault that is not open.
+    opening: Option<Opening>,
 }
 
 impl<M: Order, G: Order, S: Store> Vault<M, G, S> {
@@ -37,13 +33,9 @@ impl<M: Order, G: Order, S: Store> Vault<M, G, S> {
         ensures { Closed marks grades store result }
     {
         Vault {
-            marks,
-            grades,
+            orders: Orders { marks, grades },
             store,
-            open: false,
-            floor: 0,
-            sheets: Table::empty(BLANK_SHEET),
-            seats: Table::empty(BLANK_SEAT),
+            opening: None,
         }
     }
 
@@ -54,60 +46,47 @@ impl<M: Order, G: Order, S: Store> Vault<M, G, S> {
         ensures law { result ≡ Ok tt → Law (policy M.Order G.Order self.new) (state S.Store self.new) register.now }
         ensures sizes { result ≡ Ok tt → SizesStay (policy M.Order G.Order self.new) (state S.Store self.new) register.now }
     {
-        if self.open {
-            return Err(Refusal::AlreadyOpen);
-        }
-        let made = admission::admit(&self.marks, &self.grades, &self.store, register, floor)?;
-        self.open = true;
-        self.floor = floor;
-        self.sheets = made.sheets;
-        self.seats = made.seats;
+        Refusal::AlreadyOpen.unless(self.opening.is_none())?;
+        let opening = admission::admit(&self.orders, &self.store, register, floor)?;
+        self.opening = Some(opening);
         Ok(())
     }
 
-    // The record of the seat that calls.
-    fn caller(&self, seat: u16) -> Result<Seat, Refusal>
-        ensures { result ≡ caller_of self.now seat }
+    // What the opening kept.
+    fn opening(&self) -> Result<&Opening, Refusal>
+        ensures { result_map_both (λ o. o.now) (λ e. e) result ≡ opening_kept self.now }
     {
-        if !self.open {
-            return Err(Refusal::Closed);
-        }
-        self.seats.get(seat).ok_or(Refusal::NoSeat)
-    }
-
-    // The label and the certificate of the sheet that a call names.
-    fn sheet(&self, sheet: u16) -> Result<Sheet, Refusal>
-        ensures { result ≡ sheet_of self.now sheet }
-    {
-        self.sheets.get(sheet).ok_or(Refusal::NoSheet)
+        self.opening.as_ref().ok_or(Refusal::Closed)
     }
 
     // Whether the seat may read the sheet.
     fn may_read(&self, seat: u16, sheet: u16) -> Result<(), Refusal>
         ensures { result ≡ checked (read_front (policy M.Order G.Order self.now) (state S.Store self.now) seat sheet) tt }
     {
-        let holder = self.caller(seat)?.certificate;
-        let label = self.sheet(sheet)?.label;
-        access::may_read(&self.marks, &self.grades, holder, label)
+        let opening = self.opening()?;
+        let holder = opening.seat(seat)?.certificate;
+        self.orders.may_read(holder, opening.sheet(sheet)?.label)
     }
 
     // Whether the seat may write the sheet; a certified program is never written.
     fn may_write(&self, seat: u16, sheet: u16) -> Result<(), Refusal>
         ensures { result ≡ checked (write_front (policy M.Order G.Order self.now) (state S.Store self.now) seat sheet) tt }
     {
-        let holder = self.caller(seat)?.certificate;
-        let target = self.sheet(sheet)?;
+        let opening = self.opening()?;
+        let holder = opening.seat(seat)?.certificate;
+        let target = opening.sheet(sheet)?;
         Refusal::Certified.unless(target.certificate.is_none())?;
-        access::may_write(&self.marks, &self.grades, holder, target.label)
+        self.orders.may_write(holder, target.label)
     }
 
     // The record of the seat, if it may run the sheet.
     fn may_run(&self, seat: u16, sheet: u16) -> Result<Seat, Refusal>
         ensures { result ≡ checked (run_front (policy M.Order G.Order self.now) (state S.Store self.now) seat sheet) (seat_at (state S.Store self.now) seat) }
     {
-        let caller = self.caller(seat)?;
-        let code = self.sheet(sheet)?.label;
-        access::may_run(&self.marks, &self.grades, caller.certificate, code)?;
+        let opening = self.opening()?;
+        let caller = opening.seat(seat)?;
+        let code = opening.sheet(sheet)?.label;
+        self.orders.may_run(caller.certificate, code)?;
         Ok(caller)
     }
 
@@ -115,20 +94,30 @@ impl<M: Order, G: Order, S: Store> Vault<M, G, S> {
     fn may_hand(&self, seat: u16, sheet: u16) -> Result<Certificate, Refusal>
         ensures { result ≡ checked (hand_front (policy M.Order G.Order self.now) (state S.Store self.now) seat sheet) (held (certificate_of (policy M.Order G.Order self.now) sheet)) }
     {
-        let holder = self.caller(seat)?.certificate;
-        let program = self.sheet(sheet)?;
-        let Some(next) = program.certificate else {
-            return Err(Refusal::NotCertified);
-        };
-        access::may_hand(&self.marks, &self.grades, holder, program.label, next)?;
+        let opening = self.opening()?;
+        let holder = opening.seat(seat)?.certificate;
+        let program = opening.sheet(sheet)?;
+        let next = program.certificate.ok_or(Refusal::NotCertified)?;
+        self.orders.may_hand(holder, program.label, next)?;
         Ok(next)
+    }
+
+    // Puts another record in the place of seat i's.
+    fn put(&mut self, i: u16, seat: Seat)
+        ensures state { state S.Store self.new ≡ with_seat (state S.Store self.old) i seat }
+        ensures kept { Kept self.old self.new }
+        ensures store { self.new.store ≡ self.old.store }
+    {
+        if let Some(opening) = &mut self.opening {
+            opening.put(i, seat);
+        }
     }
 
     // The seat's running program and slip.
     pub fn tell(&self, seat: u16) -> Result<(u16, u64), Refusal>
         ensures { told result ≡ answer (policy M.Order G.Order self.now) (state S.Store self.now) (telling seat) }
     {
-        let caller = self.caller(seat)?;
+        let caller = self.opening()?.seat(seat)?;
         Ok((caller.program, caller.slip))
     }
 
@@ -175,7 +164,7 @@ impl<M: Order, G: Order, S: Store> Vault<M, G, S> {
         let mut caller = self.may_run(seat, sheet)?;
         self.store.read(sheet, place, buffer)?;
         caller.program = sheet;
-        self.seats.put(seat, caller);
+        self.put(seat, caller);
         Ok(())
     }
 
@@ -186,15 +175,13 @@ impl<M: Order, G: Order, S: Store> Vault<M, G, S> {
         ensures kept { Kept self.old self.new }
         ensures store { self.new.store ≡ self.old.store }
     {
-        let next = self.may_hand(seat, sheet)?;
-        self.seats.put(
-            seat,
-            Seat {
-                certificate: next,
-                program: sheet,
-                slip,
-            },
-        );
+        let certificate = self.may_hand(seat, sheet)?;
+        let handed = Seat {
+            certificate,
+            program: sheet,
+            slip,
+        };
+        self.put(seat, handed);
         Ok(())
     }
 }

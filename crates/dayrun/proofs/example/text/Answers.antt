@@ -1,3 +1,4 @@
+use Rattle.std.specs.Option.{is_some}
 use Rattle.std.proofs.Common.{◌≡◌, [], ◌∷◌, replicate, vec_items, string_bytes, ap, ◌∙◌, rules}
 use Rattle.stores.specs.Slabs.{made_sheets, slab_sheets}
 use Rattle.dayrun.specs.Days.{day_text}
@@ -12,4 +13,4 @@ returns c =
     let sheets = ap slab_sheets c.new-vault.ensures.store ∙ c.new-2.ensures.sheets ∙ ap (made_sheets (8 ∷ 8 ∷ 4 ∷ 4 ∷ 4 ∷ [])) items ∙ slab_of_zeros in
     let said : string_bytes c.in_ok-text.field-0 ≡ day_text marking grading storing v c.register.result.now floor c.args.input.now = c.in_ok-text.ensures in
     said
-    ∙ example_day storing v c.new.result c.register.result.now c.args.input.now c.new-vault.ensures.grades c.new.ensures sheets c.new-vault.ensures.is_open c.register.ensures
+    ∙ example_day storing v c.new.result c.register.result.now c.args.input.now c.new-vault.ensures.grades c.new.ensures sheets (ap is_some c.new-vault.ensures.opening) c.register.ensures

@@ -1,23 +1,17 @@
-use Rattle.std.proofs.Common.{◌≡◌, ◌≤◌, map, length, ap, ◌∙◌, arith, rules}
-use Rattle.std.specs.List.{range_with_len}
+use Rattle.std.proofs.Common.{rules, ◌<◌, length, ap, ◌∙◌, arith}
 use Rattle.register.specs.Tables.{book_of}
+use Rattle.std.proofs.lemmas.List.FromFn.{length-map-range_with_len}
 use Rattle.model.specs.Opening.{sheet_for}
 use Rattle.opening.proofs.Filling.{sheet_pushed}
-use Rattle.opening.proofs.Sizes.{few_entries}
 use Rattle.opening.proofs.making.sheets_of.Goals as goal
 
-pub overflow_cast-k : goal.overflow_cast-k
-overflow_cast-k c =
-    let few : length c.entries-e-items.result.now ≤ 64 = rw c.entries-e-items.ensures (few_entries c.args.register.now) in
-    search rules
+pub push-requires : goal.push-requires
+push-requires c =
+    let rows = ap length c.loop-k.invariant ∙ length-map-range_with_len (sheet_for (book_of c.args.register.now)) 0 c.loop-k.k in
+    let few : length c.loop-k.sheets.items < 64 = omega (arith, rows) in
+    (search rules, few)
 
 pub loop-k-preserved : goal.loop-k-preserved
 loop-k-preserved c =
-    let few : length c.entries-e-items.result.now ≤ 64 = rw c.entries-e-items.ensures (few_entries c.args.register.now) in
-    sheet_pushed (book_of c.args.register.now) 64 c.loop-k.k _ _ c.entries-e-items.result.now c.certificates.result.now _ (omega arith)
-    c.loop-k.invariant c.entries-e-items.ensures c.certificates.ensures c.find.ensures c.push.ensures
-
-pub returns : goal.returns
-returns c =
-    let last : c.loop-k.k ≡ length (book_of c.args.register.now).entries = rw (← c.entries-e-items.ensures) (omega arith) in
-    c.loop-k.invariant ∙ ap (λ n. map (sheet_for (book_of c.args.register.now)) (range_with_len 0 n)) last
+    sheet_pushed (book_of c.args.register.now) c.loop-k.k _ _ c.entries-e-items.result.now c.certificates.result.now _
+    c.loop-k.invariant c.entries-e-items.ensures.rows c.certificates.ensures.rows c.find.ensures c.push.ensures.items

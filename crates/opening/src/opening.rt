@@ -1,0 +1,48 @@
+// What an accepted opening keeps of the register, and the look-up of a seat and of a sheet by number.
+ghost use Rattle.std.specs.Prelude.{◌≡◌};
+
+use arrayvec::ArrayVec;
+use model::seat::Seat;
+use model::sheet::Sheet;
+use refusals::refusal::Refusal;
+use register::tables::{MOST_SEATS, MOST_SHEETS};
+
+// The floor, the record of each sheet, and the record of each seat. Calls change the seats alone.
+#[derive(Drop)]
+pub struct Opening {
+    pub floor: u64,
+    pub sheets: ArrayVec<Sheet, MOST_SHEETS>,
+    pub seats: ArrayVec<Seat, MOST_SEATS>,
+}
+
+impl Opening {
+    ghost use Rattle.opening.specs.Rows.{seat_of, sheet_of, with_seat};
+
+    // The record of the seat of this number.
+    pub fn seat(&self, seat: u16) -> Result<Seat, Refusal>
+        ensures { result ≡ seat_of self.now seat }
+    {
+        let seats = self.seats.as_slice();
+        seats.get(usize::from(seat)).copied().ok_or(Refusal::NoSeat)
+    }
+
+    // The label and the certificate of the sheet of this number.
+    pub fn sheet(&self, sheet: u16) -> Result<Sheet, Refusal>
+        ensures { result ≡ sheet_of self.now sheet }
+    {
+        let sheets = self.sheets.as_slice();
+        sheets
+            .get(usize::from(sheet))
+            .copied()
+            .ok_or(Refusal::NoSheet)
+    }
+
+    // Puts another record in the place of seat i's; nothing changes where there is no such seat.
+    pub fn put(&mut self, i: u16, seat: Seat)
+        ensures { self.new ≡ with_seat self.old i seat }
+    {
+        if let Some(place) = self.seats.get_mut(usize::from(i)) {
+            *place = seat;
+        }
+    }
+}
