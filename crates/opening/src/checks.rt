@@ -1,9 +1,10 @@
 // The tests of an opening that ask the orders and the store, each over the whole register.
-ghost use Rattle.std.specs.Prelude.{◌≡◌};
+ghost use Rattle.std.specs.Prelude.{◌≡◌, Bool};
 ghost use Rattle.std.specs.List.{list_all};
 ghost use Rattle.register.specs.Tables.{book_of};
 ghost use Rattle.model.specs.Opening.{classed, entry_classed, certificate_classed, all_classed, in_range, floored, same_sizes};
 ghost use Rattle.model.specs.Orders.{order};
+ghost use Rattle.register.specs.declared.certificate.Certificate.{Certificate};
 
 use access::Orders;
 use orders::order::Order;
@@ -27,6 +28,19 @@ fn are_entries_classed<M: Order, G: Order>(orders: &Orders<M, G>, entries: &[Ent
     entries.iter().all(|e| is_classed(orders, e.label))
 }
 
+// Whether each certificate passes a test.
+fn all_pass<F: Fn(Certificate) -> bool>(certificates: &[Certificate], test: F) -> bool
+    requires { F.IsAlwaysCallable test }
+    ensures { (passes : Certificate → Bool) → ((c : Certificate) (b : Bool) → F.post test c b → b ≡ passes c) → result ≡ list_all passes certificates.now }
+{
+    for c in certificates {
+        if !test(*c) {
+            return false;
+        }
+    }
+    true
+}
+
 // Whether both labels of each certificate are.
 fn are_certificates_classed<M: Order, G: Order>(
     orders: &Orders<M, G>,
@@ -34,7 +48,9 @@ fn are_certificates_classed<M: Order, G: Order>(
 ) -> bool
     ensures { result ≡ list_all (certificate_classed (order M.Order orders.now.marks) (order G.Order orders.now.grades)) certificates.now }
 {
-    certificates.iter().all(|c| is_classed(orders, c.reading) && is_classed(orders, c.writing))
+    all_pass(certificates, |c| {
+        is_classed(orders, c.reading) && is_classed(orders, c.writing)
+    })
 }
 
 // Whether every mark, every grade and the floor is a class of its order.
@@ -54,7 +70,7 @@ pub fn are_all_classed<M: Order, G: Order>(
 pub fn are_in_range<M: Order, G: Order>(orders: &Orders<M, G>, certificates: &[Certificate]) -> bool
     ensures { result ≡ list_all (in_range (order M.Order orders.now.marks) (order G.Order orders.now.grades)) certificates.now }
 {
-    certificates.iter().all(|c| {
+    all_pass(certificates, |c| {
         orders.marks.at_or_below(c.writing.mark, c.reading.mark)
             && orders.grades.at_or_below(c.reading.grade, c.writing.grade)
     })
@@ -68,7 +84,7 @@ pub fn are_floored<M: Order, G: Order>(
 ) -> bool
     ensures { result ≡ list_all (floored (order M.Order orders.now.marks) (order G.Order orders.now.grades) floor) certificates.now }
 {
-    certificates.iter().all(|c| {
+    all_pass(certificates, |c| {
         orders.marks.at_or_below(c.reading.mark, c.writing.mark)
             || orders.grades.at_or_below(floor, c.writing.grade)
     })
