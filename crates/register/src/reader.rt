@@ -15,7 +15,7 @@ ghost use Rattle.std.specs.Prelude.{◌≡◌};
 ghost use Rattle.register.specs.Layout.{reading, listed};
 
 use crate::certificate::BLANK_CERTIFICATE;
-use crate::entry::BLANK_ENTRY;
+use crate::entry::Entry;
 use crate::layout::HEAD;
 use crate::tables::Register;
 use crate::{layout, rows};
@@ -37,7 +37,7 @@ pub fn read(bytes: &[u8]) -> Result<Register, Refusal>
     }
     Ok(Register {
         entry_count: layout.sheets,
-        entries: rows::table(BLANK_ENTRY, layout, bytes),
+        entries: rows::table(Entry::default(), layout, bytes),
         certificate_count: layout.certificates,
         certificates: rows::table(BLANK_CERTIFICATE, layout, bytes),
         start_count: layout.seats,
