@@ -14,33 +14,24 @@
 ghost use Rattle.std.specs.Prelude.{◌≡◌};
 ghost use Rattle.register.specs.Layout.{reading, listed};
 
-use crate::certificate::BLANK_CERTIFICATE;
-use crate::entry::Entry;
+use crate::form::Form;
+use crate::layout;
 use crate::layout::HEAD;
 use crate::tables::Register;
-use crate::{layout, rows};
 use refusals::refusal::Refusal;
 
 // What the bytes of a register say, if they have its counts and its length.
 pub fn read(bytes: &[u8]) -> Result<Register, Refusal>
     ensures { listed result ≡ reading bytes.now }
 {
-    if bytes.len() < HEAD {
-        return Err(Refusal::RegisterLength);
-    }
+    Refusal::RegisterLength.unless(bytes.len() >= HEAD)?;
     let layout = layout::counts(bytes);
-    if !layout.is_within_limits() {
-        return Err(Refusal::Counts);
-    }
-    if bytes.len() != layout.whole_length() {
-        return Err(Refusal::RegisterLength);
-    }
+    Refusal::Counts.unless(layout.is_within_limits())?;
+    Refusal::RegisterLength.unless(bytes.len() == layout.whole_length())?;
+    let form = Form { layout, bytes };
     Ok(Register {
-        entry_count: layout.sheets,
-        entries: rows::table(Entry::default(), layout, bytes),
-        certificate_count: layout.certificates,
-        certificates: rows::table(BLANK_CERTIFICATE, layout, bytes),
-        start_count: layout.seats,
-        starts: rows::table(0, layout, bytes),
+        entries: form.entries(),
+        certificates: form.certificates(),
+        starts: form.starts(),
     })
 }
