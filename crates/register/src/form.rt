@@ -12,7 +12,7 @@ use crate::layout::{HEAD, Layout};
 use crate::tables::{MOST_CERTIFICATES, MOST_SEATS, MOST_SHEETS};
 use arrayvec::ArrayVec;
 
-// Counts within their limits, with as many bytes as they ask for.
+// Counts within their limits, with the bytes that they begin: as many as they ask for.
 #[derive(Clone, Copy)]
 pub struct Form<'a> {
     pub layout: Layout,
@@ -33,6 +33,7 @@ impl Form<'_> {
         }
     }
 
+    // The size and the label of sheet k.
     fn entry(&self, k: usize) -> Entry
         requires { k < self.now.layout.sheets }
         ensures { result ≡ entry_at self.now.layout self.now.bytes.now k }
@@ -43,6 +44,7 @@ impl Form<'_> {
         }
     }
 
+    // The program number of certificate j, with its reading and its writing label.
     fn certificate(&self, j: usize) -> Certificate
         requires { j < self.now.layout.certificates }
         ensures { result ≡ certificate_at self.now.layout self.now.bytes.now j }
@@ -55,6 +57,7 @@ impl Form<'_> {
         }
     }
 
+    // The program that seat i starts with.
     fn start(&self, i: usize) -> u16
         requires { i < self.now.layout.seats }
         ensures { result ≡ start_at self.now.layout self.now.bytes.now i }

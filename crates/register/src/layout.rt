@@ -16,6 +16,7 @@ pub struct Layout {
     pub seats: u16,
 }
 
+// The counts that the first six bytes say.
 pub fn counts(bytes: &[u8]) -> Layout
     requires { 6 ≤ length bytes.now }
     ensures { result ≡ counts_of bytes.now }
@@ -28,6 +29,7 @@ pub fn counts(bytes: &[u8]) -> Layout
 }
 
 impl Layout {
+    // Whether there are 1 to 64 sheets, 1 to 32 certificates and 1 to 32 seats.
     pub fn is_within_limits(self) -> bool
         ensures { result ≡ within_limits self }
     {

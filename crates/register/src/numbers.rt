@@ -8,36 +8,41 @@ use crate::certificate::{Certificate, find};
 use crate::entry::Entry;
 use crate::tables::Register;
 
+// How many bytes a sheet may have.
 const MOST_BYTES: u32 = 4096;
 
+// Whether each size is within its limit.
 fn sizes_fit(entries: &[Entry]) -> bool
     ensures { result ≡ list_all size_fits entries.now }
 {
     entries.iter().all(|e| e.size <= MOST_BYTES)
 }
 
+// Whether each program number is below the count of sheets.
 fn programs_are_sheets(certificates: &[Certificate], sheets: usize) -> bool
     ensures { result ≡ programs_are_sheets sheets certificates.now }
 {
     certificates.iter().all(|c| usize::from(c.program) < sheets)
 }
 
+// Whether each program number is below the next.
 fn programs_ascend(certificates: &[Certificate]) -> bool
     ensures { result ≡ programs_ascend certificates.now }
 {
-    let nexts = certificates.iter().skip(1);
     certificates
         .iter()
-        .zip(nexts)
+        .zip(certificates.iter().skip(1))
         .all(|(c, next)| c.program < next.program)
 }
 
+// Both of these.
 fn programs_climb(certificates: &[Certificate], sheets: usize) -> bool
     ensures { result ≡ programs_climb sheets certificates.now }
 {
     programs_are_sheets(certificates, sheets) && programs_ascend(certificates)
 }
 
+// Whether each starting number is a program's.
 fn starts_are_programs(starts: &[u16], certificates: &[Certificate]) -> bool
     ensures { result ≡ list_all (is_program certificates.now) starts.now }
 {

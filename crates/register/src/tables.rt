@@ -13,11 +13,12 @@ pub const MOST_CERTIFICATES: usize = 32;
 
 pub const MOST_SEATS: usize = 32;
 
+// What a register says: an entry for each sheet, the certificates, and the program that each seat starts with.
+// An ArrayVec is seen as its items alone, so the ghost fields say that they are no more than its capacity.
 #[derive(Drop)]
 pub struct Register {
     pub(crate) entries: ArrayVec<Entry, MOST_SHEETS>,
     pub(crate) certificates: ArrayVec<Certificate, MOST_CERTIFICATES>,
-    // The program that each seat starts with.
     pub(crate) starts: ArrayVec<u16, MOST_SEATS>,
     ghost entries_fit: { array_vec_len entries ≤ 64 },
     ghost certificates_fit: { array_vec_len certificates ≤ 32 },
