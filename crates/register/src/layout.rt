@@ -16,15 +16,15 @@ pub struct Layout {
     pub seats: u16,
 }
 
-// The counts that the first six bytes say.
-pub fn counts(bytes: &[u8]) -> Layout
-    requires { 6 ≤ length bytes.now }
-    ensures { result ≡ counts_of bytes.now }
-{
-    Layout {
-        sheets: u16::from_be_bytes(field(bytes, 0)),
-        certificates: u16::from_be_bytes(field(bytes, 2)),
-        seats: u16::from_be_bytes(field(bytes, 4)),
+impl From<&[u8; HEAD]> for Layout {
+    ghost from_gives = { λ head layout. layout ≡ counts_of head.now };
+
+    fn from(head: &[u8; HEAD]) -> Layout {
+        Layout {
+            sheets: u16::from_be_bytes(field(head, 0)),
+            certificates: u16::from_be_bytes(field(head, 2)),
+            seats: u16::from_be_bytes(field(head, 4)),
+        }
     }
 }
 

@@ -15,8 +15,7 @@ ghost use Rattle.std.specs.Prelude.{◌≡◌};
 ghost use Rattle.register.specs.Layout.{reading, listed};
 
 use crate::form::Form;
-use crate::layout;
-use crate::layout::HEAD;
+use crate::layout::Layout;
 use crate::tables::Register;
 use refusals::refusal::Refusal;
 
@@ -24,8 +23,8 @@ use refusals::refusal::Refusal;
 pub fn read(bytes: &[u8]) -> Result<Register, Refusal>
     ensures { listed result ≡ reading bytes.now }
 {
-    Refusal::RegisterLength.unless(bytes.len() >= HEAD)?;
-    let layout = layout::counts(bytes);
+    let head = bytes.first_chunk().ok_or(Refusal::RegisterLength)?;
+    let layout = Layout::from(head);
     Refusal::Counts.unless(layout.is_within_limits())?;
     Refusal::RegisterLength.unless(bytes.len() == layout.whole_length())?;
     let form = Form { layout, bytes };
