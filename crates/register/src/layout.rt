@@ -1,5 +1,5 @@
 // Where the numbers of a register stand, as the table in the reader's file has it: all places follow from the three counts.
-ghost use Rattle.std.specs.Prelude.{◌≡◌, ◌≤◌, length};
+ghost use Rattle.std.specs.Prelude.{◌≡◌};
 ghost use Rattle.register.specs.Layout.{counts_of, within_limits, programs_from, starts_from, marks_from, label_count, grades_from, whole_length};
 
 use crate::fields::field;
