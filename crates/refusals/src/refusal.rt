@@ -1,45 +1,47 @@
-// One enum for all refusals. A refusal changes no sheet, no seat and no buffer.
-ghost use Rattle.std.specs.Prelude.{◌≡◌, not, [], ◌∷◌};
+// One enum for all refusals, each with the number by which it is known outside. A refusal changes no sheet, no seat and no buffer.
+ghost use Rattle.std.specs.Prelude.{◌≡◌, not, [], ◌∷◌, Some, decimal};
 ghost use Rattle.refusals.specs.Refusals.{checked, number_of, on};
+
+use std::fmt;
 
 #[derive(Clone, Copy, PartialEq, Eq, Debug)]
 pub enum Refusal {
     // A seat's call, and the vault is not open.
-    Closed,
+    Closed = 1,
     // The register has under six bytes, or not its exact length.
-    RegisterLength,
+    RegisterLength = 2,
     // A count of sheets, certificates or seats outside its limits.
-    Counts,
+    Counts = 3,
     // A size over 4,096, a program number that is no sheet or not above the one before, or a starting number that is no program.
-    Numbers,
+    Numbers = 4,
     // A mark, a grade or the floor is no class of its order.
-    NoClass,
+    NoClass = 5,
     // A certificate whose writing mark is not at or below its reading mark, or whose reading grade is not at or below its writing grade.
-    Range,
+    Range = 6,
     // A certificate ranged in marks whose writing grade is not at or above the floor.
-    UnderFloor,
+    UnderFloor = 7,
     // The store's count of sheets, or a size, differs from the register.
-    OtherStore,
+    OtherStore = 8,
     // Opening a vault that is open.
-    AlreadyOpen,
+    AlreadyOpen = 9,
     // The vault has no seat of this number.
-    NoSeat,
+    NoSeat = 10,
     // There is no sheet of this number.
-    NoSheet,
+    NoSheet = 11,
     // A mark rule of the call fails.
-    MarkRule,
+    MarkRule = 12,
     // The grade rule of the call fails.
-    GradeRule,
+    GradeRule = 13,
     // A write to a certified program.
-    Certified,
+    Certified = 14,
     // The bytes reach past the sheet's end.
-    PastEnd,
+    PastEnd = 15,
     // A hand over to a sheet that has no certificate.
-    NotCertified,
+    NotCertified = 16,
     // A store's check: too many sheets, one that is too large, too many pages, more or fewer pages than needed, or a page twice.
-    StoreLimit,
+    StoreLimit = 17,
     // A store's check: a sheet or a page reaches past the memory.
-    PastMemory,
+    PastMemory = 18,
 }
 
 impl Refusal {
@@ -47,26 +49,7 @@ impl Refusal {
     pub fn number(self) -> u8
         ensures { result ≡ number_of self }
     {
-        match self {
-            Refusal::Closed => 1,
-            Refusal::RegisterLength => 2,
-            Refusal::Counts => 3,
-            Refusal::Numbers => 4,
-            Refusal::NoClass => 5,
-            Refusal::Range => 6,
-            Refusal::UnderFloor => 7,
-            Refusal::OtherStore => 8,
-            Refusal::AlreadyOpen => 9,
-            Refusal::NoSeat => 10,
-            Refusal::NoSheet => 11,
-            Refusal::MarkRule => 12,
-            Refusal::GradeRule => 13,
-            Refusal::Certified => 14,
-            Refusal::PastEnd => 15,
-            Refusal::NotCertified => 16,
-            Refusal::StoreLimit => 17,
-            Refusal::PastMemory => 18,
-        }
+        self as u8
     }
 
     // Refuses unless the condition holds.
@@ -74,5 +57,22 @@ impl Refusal {
         ensures { result ≡ checked (on (not holds) self ∷ []) tt }
     {
         if holds { Ok(()) } else { Err(self) }
+    }
+}
+
+impl From<Refusal> for u8 {
+    ghost from_gives = { λ refusal number. number ≡ number_of refusal };
+
+    fn from(refusal: Refusal) -> u8 {
+        refusal.number()
+    }
+}
+
+// A refusal is printed as its number.
+impl fmt::Display for Refusal {
+    ghost output = { λ refusal. Some (decimal (number_of refusal)) };
+
+    fn fmt<W: fmt::Write>(&self, f: &mut fmt::Formatter<W>) -> fmt::Result {
+        self.number().fmt(f)
     }
 }

@@ -1,5 +1,5 @@
 -- Labels, entries and certificates where nothing was put, and certificates by their programs.
-use Rattle.std.specs.Prelude.{ℕ, cond, List, [], ◌∷◌, Some, None, Option, ◌==◌}
+use Rattle.std.specs.Prelude.{ℕ, List, Option, ◌==◌, find}
 use Rattle.register.specs.declared.label.Label.{Label}
 use Rattle.register.specs.declared.entry.Entry.{Entry}
 use Rattle.register.specs.declared.certificate.Certificate.{Certificate}
@@ -18,5 +18,4 @@ blank_certificate = record { program = 0; reading = blank_label; writing = blank
 
 -- the first certificate of program p, where it has one
 abbrev pub certificate_in : List Certificate → ℕ → Option Certificate
-certificate_in [] p = None
-certificate_in (c ∷ cs) p = cond (c.program == p) (Some c) (certificate_in cs p)
+certificate_in cs p = find (λ c. c.program == p) cs

@@ -1,7 +1,7 @@
 -- Registers whose numbers are sound.
-use Rattle.std.specs.Prelude.{ℕ, ◌-◌, Bool, ◌&&◌, ◌||◌, List, length, is_some, ◌==◌, nat_le, nat_lt, slice_index_or}
-use Rattle.std.specs.List.{range_with_len, list_all}
-use Rattle.register.specs.Certificates.{certificate_in, blank_certificate}
+use Rattle.std.specs.Prelude.{ℕ, Bool, ◌&&◌, List, length, drop, is_some, nat_le, nat_lt}
+use Rattle.std.specs.List.{list_all, zip}
+use Rattle.register.specs.Certificates.{certificate_in}
 use Rattle.register.specs.Tables.{Book}
 use Rattle.register.specs.declared.entry.Entry.{Entry}
 use Rattle.register.specs.declared.certificate.Certificate.{Certificate}
@@ -10,17 +10,17 @@ use Rattle.register.specs.declared.certificate.Certificate.{Certificate}
 abbrev pub size_fits : Entry → Bool
 size_fits e = nat_le e.size 4096
 
--- the program number of certificate j
-abbrev pub program_of : List Certificate → ℕ → ℕ
-program_of cs j = (slice_index_or cs j blank_certificate).program
+-- each program number is below n
+abbrev pub programs_are_sheets : ℕ → List Certificate → Bool
+programs_are_sheets n cs = list_all (λ c. nat_lt c.program n) cs
 
--- the program number of certificate j is below n, and above the one before, if there is one
-abbrev pub climbs_at : ℕ → List Certificate → ℕ → Bool
-climbs_at n cs j = nat_lt (program_of cs j) n && (j == 0 || nat_lt (program_of cs (j - 1)) (program_of cs j))
+-- each program number is below the next
+abbrev pub programs_ascend : List Certificate → Bool
+programs_ascend cs = list_all (λ pair. nat_lt pair.0.program pair.1.program) (zip cs (drop 1 cs))
 
 -- each program number is below n, and above the one before
 abbrev pub programs_climb : ℕ → List Certificate → Bool
-programs_climb n cs = list_all (climbs_at n cs) (range_with_len 0 (length cs))
+programs_climb n cs = programs_are_sheets n cs && programs_ascend cs
 
 -- p is a program: one of the certificates is its
 abbrev pub is_program : List Certificate → ℕ → Bool

@@ -2,7 +2,7 @@
 ghost use Rattle.std.specs.Prelude.{◌≡◌};
 ghost use Rattle.register.specs.Certificates.{certificate_in};
 
-use crate::label::{BLANK_LABEL, Label};
+use crate::label::Label;
 
 // The number of a program's sheet, with the labels that the program reads and writes at.
 #[derive(Clone, Copy, Default)]
@@ -15,18 +15,13 @@ pub struct Certificate {
 // What stands in a table where nothing was put.
 pub const BLANK_CERTIFICATE: Certificate = Certificate {
     program: 0,
-    reading: BLANK_LABEL,
-    writing: BLANK_LABEL,
+    reading: Label { mark: 0, grade: 0 },
+    writing: Label { mark: 0, grade: 0 },
 };
 
 // The first certificate of a program, where it has one.
 pub fn find(certificates: &[Certificate], program: u16) -> Option<Certificate>
     ensures { result ≡ certificate_in certificates.now program }
 {
-    for c in certificates {
-        if c.program == program {
-            return Some(*c);
-        }
-    }
-    None
+    certificates.iter().copied().find(|c| c.program == program)
 }

@@ -6,6 +6,3 @@ pub struct Label {
     pub mark: u64,
     pub grade: u64,
 }
-
-// What stands in a table where nothing was put.
-pub(crate) const BLANK_LABEL: Label = Label { mark: 0, grade: 0 };

@@ -1,8 +1,8 @@
 // Where the numbers of a register stand, as the table in the reader's file has it: all places follow from the three counts.
-ghost use Rattle.std.specs.Prelude.{◌≡◌, ◌≤◌, length};
+ghost use Rattle.std.specs.Prelude.{◌≡◌};
 ghost use Rattle.register.specs.Layout.{counts_of, within_limits, programs_from, starts_from, marks_from, label_count, grades_from, whole_length};
 
-use crate::fields;
+use crate::fields::field;
 use crate::tables::{MOST_CERTIFICATES, MOST_SEATS, MOST_SHEETS};
 
 // The bytes of the three counts; the sizes of the sheets come next.
@@ -16,52 +16,51 @@ pub struct Layout {
     pub seats: u16,
 }
 
-pub fn counts(bytes: &[u8]) -> Layout
-    requires { 6 ≤ length bytes.now }
-    ensures { result ≡ counts_of bytes.now }
-{
-    Layout {
-        sheets: fields::two(bytes, 0),
-        certificates: fields::two(bytes, 2),
-        seats: fields::two(bytes, 4),
+impl From<&[u8; HEAD]> for Layout {
+    ghost from_gives = { λ head layout. layout ≡ counts_of head.now };
+
+    fn from(head: &[u8; HEAD]) -> Layout {
+        Layout {
+            sheets: u16::from_be_bytes(field(head, 0)),
+            certificates: u16::from_be_bytes(field(head, 2)),
+            seats: u16::from_be_bytes(field(head, 4)),
+        }
     }
 }
 
 impl Layout {
+    // Whether there are 1 to 64 sheets, 1 to 32 certificates and 1 to 32 seats.
     pub fn is_within_limits(self) -> bool
         ensures { result ≡ within_limits self }
     {
-        1 <= self.sheets
-            && self.sheets as usize <= MOST_SHEETS
-            && 1 <= self.certificates
-            && self.certificates as usize <= MOST_CERTIFICATES
-            && 1 <= self.seats
-            && self.seats as usize <= MOST_SEATS
+        (1..=MOST_SHEETS).contains(&usize::from(self.sheets))
+            && (1..=MOST_CERTIFICATES).contains(&usize::from(self.certificates))
+            && (1..=MOST_SEATS).contains(&usize::from(self.seats))
     }
 
     pub fn programs_from(self) -> usize
         ensures { result ≡ programs_from self }
     {
-        HEAD + 4 * self.sheets as usize
+        HEAD + 4 * usize::from(self.sheets)
     }
 
     pub fn starts_from(self) -> usize
         ensures { result ≡ starts_from self }
     {
-        self.programs_from() + 2 * self.certificates as usize
+        self.programs_from() + 2 * usize::from(self.certificates)
     }
 
     pub fn marks_from(self) -> usize
         ensures { result ≡ marks_from self }
     {
-        self.starts_from() + 2 * self.seats as usize
+        self.starts_from() + 2 * usize::from(self.seats)
     }
 
     // One for each sheet, then the reading and the writing label of each certificate.
     fn label_count(self) -> usize
         ensures { result ≡ label_count self }
     {
-        self.sheets as usize + 2 * self.certificates as usize
+        usize::from(self.sheets) + 2 * usize::from(self.certificates)
     }
 
     pub fn grades_from(self) -> usize

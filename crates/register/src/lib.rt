@@ -4,10 +4,9 @@
 pub mod certificate;
 pub mod entry;
 mod fields;
+mod form;
 pub mod label;
 mod layout;
 pub mod numbers;
 pub mod reader;
-mod rows;
 pub mod tables;
-mod views;

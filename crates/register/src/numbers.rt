@@ -1,55 +1,52 @@
 // Whether the numbers of a register are sound: its sizes, its program numbers and its starting numbers.
-ghost use Rattle.std.specs.Prelude.{◌≡◌, ◌<◌, length};
+ghost use Rattle.std.specs.Prelude.{◌≡◌};
 ghost use Rattle.std.specs.List.{list_all};
-ghost use Rattle.register.specs.Numbers.{size_fits, climbs_at, programs_climb, is_program, numbers_sound};
+ghost use Rattle.register.specs.Numbers.{size_fits, programs_are_sheets, programs_ascend, programs_climb, is_program, numbers_sound};
 ghost use Rattle.register.specs.Tables.{book_of};
 
 use crate::certificate::{Certificate, find};
 use crate::entry::Entry;
 use crate::tables::Register;
 
+// How many bytes a sheet may have.
 const MOST_BYTES: u32 = 4096;
 
+// Whether each size is within its limit.
 fn sizes_fit(entries: &[Entry]) -> bool
     ensures { result ≡ list_all size_fits entries.now }
 {
-    for e in entries {
-        if e.size > MOST_BYTES {
-            return false;
-        }
-    }
-    true
+    entries.iter().all(|e| e.size <= MOST_BYTES)
 }
 
-// Whether program number j is below the count of sheets, and above the one before, if there is one.
-fn climbs_at(certificates: &[Certificate], sheets: usize, j: usize) -> bool
-    requires { j < length certificates.now }
-    ensures { result ≡ climbs_at sheets certificates.now j }
+// Whether each program number is below the count of sheets.
+fn programs_are_sheets(certificates: &[Certificate], sheets: usize) -> bool
+    ensures { result ≡ programs_are_sheets sheets certificates.now }
 {
-    let program = certificates[j].program;
-    (program as usize) < sheets && (j == 0 || certificates[j - 1].program < program)
+    certificates.iter().all(|c| usize::from(c.program) < sheets)
 }
 
+// Whether each program number is below the next.
+fn programs_ascend(certificates: &[Certificate]) -> bool
+    ensures { result ≡ programs_ascend certificates.now }
+{
+    certificates
+        .iter()
+        .zip(certificates.iter().skip(1))
+        .all(|(c, next)| c.program < next.program)
+}
+
+// Both of these.
 fn programs_climb(certificates: &[Certificate], sheets: usize) -> bool
     ensures { result ≡ programs_climb sheets certificates.now }
 {
-    for j in 0..certificates.len() {
-        if !climbs_at(certificates, sheets, j) {
-            return false;
-        }
-    }
-    true
+    programs_are_sheets(certificates, sheets) && programs_ascend(certificates)
 }
 
+// Whether each starting number is a program's.
 fn starts_are_programs(starts: &[u16], certificates: &[Certificate]) -> bool
     ensures { result ≡ list_all (is_program certificates.now) starts.now }
 {
-    for p in starts {
-        if find(certificates, *p).is_none() {
-            return false;
-        }
-    }
-    true
+    starts.iter().all(|p| find(certificates, *p).is_some())
 }
 
 // Whether each size is within its limit, the program numbers climb, and each seat starts with a program.

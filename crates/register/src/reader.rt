@@ -14,33 +14,23 @@
 ghost use Rattle.std.specs.Prelude.{◌≡◌};
 ghost use Rattle.register.specs.Layout.{reading, listed};
 
-use crate::certificate::BLANK_CERTIFICATE;
-use crate::entry::BLANK_ENTRY;
-use crate::layout::HEAD;
+use crate::form::Form;
+use crate::layout::Layout;
 use crate::tables::Register;
-use crate::{layout, rows};
 use refusals::refusal::Refusal;
 
 // What the bytes of a register say, if they have its counts and its length.
 pub fn read(bytes: &[u8]) -> Result<Register, Refusal>
     ensures { listed result ≡ reading bytes.now }
 {
-    if bytes.len() < HEAD {
-        return Err(Refusal::RegisterLength);
-    }
-    let layout = layout::counts(bytes);
-    if !layout.is_within_limits() {
-        return Err(Refusal::Counts);
-    }
-    if bytes.len() != layout.whole_length() {
-        return Err(Refusal::RegisterLength);
-    }
+    let head = bytes.first_chunk().ok_or(Refusal::RegisterLength)?;
+    let layout = Layout::from(head);
+    Refusal::Counts.unless(layout.is_within_limits())?;
+    Refusal::RegisterLength.unless(bytes.len() == layout.whole_length())?;
+    let form = Form { layout, bytes };
     Ok(Register {
-        entry_count: layout.sheets,
-        entries: rows::table(BLANK_ENTRY, layout, bytes),
-        certificate_count: layout.certificates,
-        certificates: rows::table(BLANK_CERTIFICATE, layout, bytes),
-        start_count: layout.seats,
-        starts: rows::table(0, layout, bytes),
+        entries: form.entries(),
+        certificates: form.certificates(),
+        starts: form.starts(),
     })
 }

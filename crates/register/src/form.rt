@@ -1,0 +1,101 @@
+// The binary form of a register: its bytes with the counts that they begin with, and what they say row by row.
+ghost use Rattle.std.specs.Prelude.{◌≡◌, ◌+◌, ◌<◌, ◌≤◌, ℕ, true, length, map, slice_index_or};
+ghost use Rattle.std.specs.List.{range_with_len};
+ghost use Rattle.arrayvec.specs.ArrayVec.{array_vec_len};
+ghost use Rattle.register.specs.Layout.{within_limits, whole_length, label_count, label_at, entry_at, certificate_at, start_at};
+
+use crate::certificate::Certificate;
+use crate::entry::Entry;
+use crate::fields::field;
+use crate::label::Label;
+use crate::layout::{HEAD, Layout};
+use crate::tables::{MOST_CERTIFICATES, MOST_SEATS, MOST_SHEETS};
+use arrayvec::ArrayVec;
+
+// Counts within their limits, with the bytes that they begin: as many as they ask for.
+#[derive(Clone, Copy)]
+pub struct Form<'a> {
+    pub layout: Layout,
+    pub bytes: &'a [u8],
+    ghost within: { within_limits layout ≡ true },
+    ghost whole: { length bytes.now ≡ whole_length layout },
+}
+
+impl Form<'_> {
+    // The label at place i among all labels.
+    fn label(&self, i: usize) -> Label
+        requires { i < label_count self.now.layout }
+        ensures { result ≡ label_at self.now.layout self.now.bytes.now i }
+    {
+        Label {
+            mark: u64::from_be_bytes(field(self.bytes, self.layout.marks_from() + 8 * i)),
+            grade: u64::from_be_bytes(field(self.bytes, self.layout.grades_from() + 8 * i)),
+        }
+    }
+
+    // The size and the label of sheet k.
+    fn entry(&self, k: usize) -> Entry
+        requires { k < self.now.layout.sheets }
+        ensures { result ≡ entry_at self.now.layout self.now.bytes.now k }
+    {
+        Entry {
+            size: u32::from_be_bytes(field(self.bytes, HEAD + 4 * k)),
+            label: self.label(k),
+        }
+    }
+
+    // The program number of certificate j, with its reading and its writing label.
+    fn certificate(&self, j: usize) -> Certificate
+        requires { j < self.now.layout.certificates }
+        ensures { result ≡ certificate_at self.now.layout self.now.bytes.now j }
+    {
+        let first = usize::from(self.layout.sheets) + 2 * j;
+        Certificate {
+            program: u16::from_be_bytes(field(self.bytes, self.layout.programs_from() + 2 * j)),
+            reading: self.label(first),
+            writing: self.label(first + 1),
+        }
+    }
+
+    // The program that seat i starts with.
+    fn start(&self, i: usize) -> u16
+        requires { i < self.now.layout.seats }
+        ensures { result ≡ start_at self.now.layout self.now.bytes.now i }
+    {
+        u16::from_be_bytes(field(self.bytes, self.layout.starts_from() + 2 * i))
+    }
+
+    // An entry for each sheet.
+    pub fn entries(&self) -> ArrayVec<Entry, MOST_SHEETS>
+        ensures { result.items ≡ map (entry_at self.now.layout self.now.bytes.now) (range_with_len 0 self.now.layout.sheets) }
+    {
+        rows(self.layout.sheets, |k| self.entry(k))
+    }
+
+    pub fn certificates(&self) -> ArrayVec<Certificate, MOST_CERTIFICATES>
+        ensures { result.items ≡ map (certificate_at self.now.layout self.now.bytes.now) (range_with_len 0 self.now.layout.certificates) }
+    {
+        rows(self.layout.certificates, |j| self.certificate(j))
+    }
+
+    // The program that each seat starts with.
+    pub fn starts(&self) -> ArrayVec<u16, MOST_SEATS>
+        ensures { result.items ≡ map (start_at self.now.layout self.now.bytes.now) (range_with_len 0 self.now.layout.seats) }
+    {
+        rows(self.layout.seats, |i| self.start(i))
+    }
+}
+
+// A table with as many rows as are counted, each as `row` gives it at its place.
+fn rows<T: Default + Drop, const N: usize, F: Fn(usize) -> T>(count: u16, row: F) -> ArrayVec<T, N>
+    requires room { count ≤ N }
+    requires callable { (i : ℕ) → i < count → F.pre row i }
+    ensures count { array_vec_len result ≡ count }
+    ensures rows { (i : ℕ) (d : T) → i < count → F.post row i (slice_index_or result.items i d) }
+{
+    let mut rows = ArrayVec::new();
+    for i in 0..usize::from(count) {
+        rows.push(row(i));
+    }
+    rows
+}
