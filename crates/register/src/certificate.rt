@@ -12,13 +12,6 @@ pub struct Certificate {
     pub writing: Label,
 }
 
-// What stands in a table where nothing was put.
-pub const BLANK_CERTIFICATE: Certificate = Certificate {
-    program: 0,
-    reading: Label { mark: 0, grade: 0 },
-    writing: Label { mark: 0, grade: 0 },
-};
-
 // The first certificate of a program, where it has one.
 pub fn find(certificates: &[Certificate], program: u16) -> Option<Certificate>
     ensures { result ≡ certificate_in certificates.now program }

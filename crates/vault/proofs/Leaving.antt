@@ -31,6 +31,10 @@ refused_as o already floor e closed h = ap o closed ∙ refused (o false) h
     refused (Ok b) h = absurd (let z : ◌≡◌ {A = ℕ} 0 1 = cc in omega arith)
     refused (Err f) h = cc
 
+-- an opening of a vault that is not open, where something was made
+pub accepted_as : (o : Bool → Result Book Refusal) (already : Bool) (floor : ℕ) (m : Made) → already ≡ false → (a : Accepted (o false) floor m) → o already ≡ Ok a.book
+accepted_as o already floor m closed a = ap o closed ∙ a.is
+
 module _ (marks grades : Order) (bs : List ℕ) (floor : ℕ) (contents : List (List ℕ)) (m : Made) (a : Accepted (opening marks grades bs floor contents false) floor m) where
   -- the book is what the register says
   book_is : (is_ok (opening marks grades bs floor contents false) ≡ true) × (a.book ≡ decoded bs)
