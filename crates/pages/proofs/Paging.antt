@@ -6,16 +6,16 @@ use Rattle.refusals.specs.Refusals.{checked}
 use Rattle.refusals.specs.declared.refusal.Refusal.{Refusal}
 use Rattle.refusals.specs.declared.refusal.Refusal.TheVariants.{PastMemory, StoreLimit}
 use Rattle.refusals.proofs.Testing.{checked_stop}
-use Rattle.spans.specs.Cuts.{cut}
-use Rattle.stores.specs.Limits.{within_limits}
-use Rattle.spans.specs.Reaches.{Reached}
+use Rattle.stores.specs.Cuts.{cut}
+use Rattle.spans.specs.Limits.{within_limits}
+use Rattle.stores.specs.Reaches.{Reached}
 use Rattle.spans.specs.Rooms.{room, units_of}
 use Rattle.stores.specs.Sheets.{size_of, write_answer}
 use Rattle.spans.specs.Bounds.{bound_tests}
 use Rattle.spans.specs.Sizes.{limited}
-use Rattle.spans.proofs.Cutting.{size_cut}
+use Rattle.stores.proofs.Cutting.{size_cut}
 use Rattle.spans.proofs.Limiting.{limited_ok}
-use Rattle.spans.proofs.Reaching.{answered}
+use Rattle.stores.proofs.Reaching.{answered}
 use Rattle.pages.specs.PageStores.{fitted, listed_bytes, made_list, made_sheets, page_check, page_list, page_memory, page_sheets, page_sizes, page_tests}
 use Rattle.pages.specs.Paging.{all_inside, gathered, needed, none_twice}
 use Rattle.pages.specs.declared.pages.Pages.{Pages}

@@ -3,8 +3,8 @@ use Rattle.std.specs.Prelude.{◌≡◌, ℕ, ◌+◌, cond, not, List, [], ◌�
 use Rattle.refusals.specs.Refusals.{Test, checked, on}
 use Rattle.refusals.specs.declared.refusal.Refusal.{Refusal}
 use Rattle.refusals.specs.declared.refusal.Refusal.TheVariants.{PastMemory, StoreLimit}
-use Rattle.spans.specs.Cuts.{cut}
-use Rattle.stores.specs.Limits.{within_limits}
+use Rattle.stores.specs.Cuts.{cut}
+use Rattle.spans.specs.Limits.{within_limits}
 use Rattle.spans.specs.Rooms.{room}
 use Rattle.stores.specs.Sheets.{write_answer}
 use Rattle.spans.specs.Sizes.{sizes_of}

@@ -1,6 +1,6 @@
 // The calls of a page store.
 ghost use Rattle.std.specs.Prelude.{◌≡◌, length, Err, MatchResult};
-ghost use Rattle.spans.specs.Reaches.{Reached};
+ghost use Rattle.stores.specs.Reaches.{Reached};
 ghost use Rattle.spans.specs.Rooms.{room};
 ghost use Rattle.stores.specs.Sheets.{write_answer, written};
 ghost use Rattle.pages.specs.PageStores.{Rewritten, listed_bytes, page_sheets, page_sizes};
