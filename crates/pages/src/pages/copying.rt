@@ -20,29 +20,29 @@ impl ListedPages {
 
     // Fills `buffer` with the listed bytes from `at` on.
     pub fn read(&self, at: usize, buffer: &mut [u8])
-        requires { at + length buffer.old ≤ length (bytes_of self.now) }
+        requires { at + length buffer.old ≤ 16 * vec_len self.now.list }
         ensures { buffer.new ≡ take (length buffer.old) (drop at (bytes_of self.now)) }
     {
-        let mut done = 0;
-        while done < buffer.len() {
+        // Page i of the list has the bytes from `done` on.
+        for i in at / PAGE..(at + buffer.len()).div_ceil(PAGE) {
+            let done = (PAGE * i).saturating_sub(at);
             let (start, len) = self.stretch(at + done, buffer.len() - done);
             buffer[done..done + len].copy_from_slice(&self.memory[start..start + len]);
-            done += len;
         }
     }
 
     // Puts `bytes` over the listed bytes from `at` on; no other byte of the memory changes.
     pub fn write(&mut self, at: usize, bytes: &[u8])
-        requires { at + length bytes.now ≤ length (bytes_of self.old) }
+        requires { at + length bytes.now ≤ 16 * vec_len self.old.list }
         ensures list { self.new.list ≡ self.old.list }
         ensures listed { bytes_of self.new ≡ spliced (bytes_of self.old) at bytes.now }
         ensures others { OthersSame self.old.list.items self.old.memory.items self.new.memory.items }
     {
-        let mut done = 0;
-        while done < bytes.len() {
+        // Page i of the list takes the bytes from `done` on.
+        for i in at / PAGE..(at + bytes.len()).div_ceil(PAGE) {
+            let done = (PAGE * i).saturating_sub(at);
             let (start, len) = self.stretch(at + done, bytes.len() - done);
             self.memory[start..start + len].copy_from_slice(&bytes[done..done + len]);
-            done += len;
         }
     }
 }
