@@ -91,27 +91,33 @@ module _ (m : List ℕ) where
       ∙ ap (λ a. spliced (page m n ++ gathered m ns) a bs) next
 
 -- a stretch within one page: it starts where the listed byte a stands, and has as many of `left` bytes as the page has from there on
-module _ (ns m : List ℕ) (a left start len : ℕ) (below : a < 16 * length ns) (is-start : start ≡ 16 * get_or ns (a / 16) 0 + a % 16) (is-len : len ≡ min left (16 - a % 16)) (whole : all_inside ns (length m) ≡ true) where
+pub record IsStretch (ns m : List ℕ) (a left start len : ℕ) : Type 0 where
+  pub below : a < 16 * length ns
+  pub starts : start ≡ 16 * get_or ns (a / 16) 0 + a % 16
+  pub lasts : len ≡ min left (16 - a % 16)
+  pub whole : all_inside ns (length m) ≡ true
+
+module _ {ns m : List ℕ} {a left start len : ℕ} (s : IsStretch ns m a left start len) where
   place : 16 * (a / 16) + a % 16 ≡ a
   place = omega arith
 
   pub stretch_within : start + len ≤ length m
-  stretch_within = omega (arith, inside_at ns (length m) (a / 16) whole (omega arith))
+  stretch_within = omega (arith, inside_at ns (length m) (a / 16) s.whole (omega arith))
 
   pub stretch_read : take len (drop a (gathered m ns)) ≡ take len (drop start m)
   stretch_read =
       ap (λ x. take len (drop x (gathered m ns))) (sym place)
-      ∙ gathered_part m ns (a / 16) (a % 16) len whole (omega arith) (omega arith)
-      ∙ ap (λ x. take len (drop x m)) (sym is-start)
+      ∙ gathered_part m ns (a / 16) (a % 16) len s.whole (omega arith) (omega arith)
+      ∙ ap (λ x. take len (drop x m)) (sym s.starts)
 
   module _ (bs : List ℕ) (long : length bs ≡ len) where
     pub stretch_written : none_twice ns ≡ true → gathered (spliced m start bs) ns ≡ spliced (gathered m ns) a bs
     stretch_written apart =
-        ap (λ x. gathered (spliced m x bs) ns) is-start
-        ∙ gathered_splice m ns (a / 16) (a % 16) bs apart whole (omega arith) (omega arith)
+        ap (λ x. gathered (spliced m x bs) ns) s.starts
+        ∙ gathered_splice m ns (a / 16) (a % 16) bs apart s.whole (omega arith) (omega arith)
         ∙ ap (λ x. spliced (gathered m ns) x bs) place
 
     pub stretch_others : OthersSame ns m (spliced m start bs)
     stretch_others n other =
-        ap (λ x. page (spliced m x bs) n) is-start
-        ∙ other_page m (get_or ns (a / 16) 0) (a % 16) bs (inside_at ns (length m) (a / 16) whole (omega arith)) (omega arith) n (unlisted_at n ns (a / 16) other (omega arith))
+        ap (λ x. page (spliced m x bs) n) s.starts
+        ∙ other_page m (get_or ns (a / 16) 0) (a % 16) bs (inside_at ns (length m) (a / 16) s.whole (omega arith)) (omega arith) n (unlisted_at n ns (a / 16) other (omega arith))

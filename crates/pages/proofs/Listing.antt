@@ -1,23 +1,30 @@
 -- One step of a scan over a page list, and its end.
-use Rattle.std.proofs.Common.{◌≡◌, ℕ, ◌+◌, ◌*◌, ◌<◌, ◌≤◌, Bool, true, false, not, ◌&&◌, ◌||◌, eqb, leb, List, length, get_or, drop, sym, refl}
-use Rattle.std.specs.List.{IsAnyAnswer}
+use Rattle.std.proofs.Common.{◌≡◌, ℕ, ◌+◌, Bool, true, false, not, ◌&&◌, ◌||◌, eqb, List, [], ◌∷◌, drop, ap, ◌∙◌, sym, refl}
+use Rattle.std.specs.List.{IsAnyAnswer, enumerate_from, list_any}
 use Rattle.std.proofs.lemmas.List.Elements.{contains_decides}
-use Rattle.std.proofs.lemmas.List.{at_drop_more, at_drop_all}
+use Rattle.std.proofs.lemmas.List.{drop-drop}
 use Rattle.std.proofs.lemmas.Bool.Decides.{Decides-by_or, Decides-eqb, Decides-like, same_from_decides}
-use Rattle.pages.specs.Paging.{all_inside, none_twice, unlisted}
+use Rattle.pages.specs.Paging.{none_twice, unlisted}
 
-module _ (ns : List ℕ) (i : ℕ) where
-  pub inside_more : (len : ℕ) → i < length ns → all_inside (drop i ns) len ≡ (leb (16 * get_or ns i 0 + 16) len && all_inside (drop (i + 1) ns) len)
-  inside_more len below = at_drop_more (λ xs. all_inside xs len) ns i 0 below
+-- whether the number at a place stands in the list again, after that place
+abbrev pub again : List ℕ → ℕ × ℕ → Bool
+again ns p = not (unlisted (drop (p.0 + 1) ns) p.1)
 
-  pub inside_all : (len : ℕ) → length ns ≤ i → all_inside (drop i ns) len ≡ true
-  inside_all len past = at_drop_all (λ xs. all_inside xs len) ns i past
+not_and : (a b : Bool) → (not a || not b) ≡ not (a && b)
+not_and true b = refl
+not_and false b = refl
 
-  pub twice_more : i < length ns → none_twice (drop i ns) ≡ (unlisted (drop (i + 1) ns) (get_or ns i 0) && none_twice (drop (i + 1) ns))
-  twice_more below = at_drop_more none_twice ns i 0 below
+-- that it does somewhere is that a number stands twice
+again_from : (ns : List ℕ) (i : ℕ) (xs : List ℕ) → drop i ns ≡ xs → list_any (again ns) (enumerate_from i xs) ≡ not (none_twice xs)
+again_from ns i [] rest = refl
+again_from ns i (x ∷ xs) rest =
+    let next : drop (i + 1) ns ≡ xs = sym (drop-drop 1 i ns) ∙ ap (drop 1) rest in
+    ap (λ l. not (unlisted l x) || list_any (again ns) (enumerate_from (i + 1) xs)) next
+    ∙ ap (λ b. not (unlisted xs x) || b) (again_from ns (i + 1) xs next)
+    ∙ not_and (unlisted xs x) (none_twice xs)
 
-  pub twice_all : length ns ≤ i → none_twice (drop i ns) ≡ true
-  twice_all past = at_drop_all none_twice ns i past
+pub again_twice : (ns : List ℕ) → list_any (again ns) (enumerate_from 0 ns) ≡ not (none_twice ns)
+again_twice ns = again_from ns 0 ns refl
 
 and_not : (a b : Bool) → not (not a && b) ≡ (a || not b)
 and_not true b = refl

@@ -1,23 +1,24 @@
 -- What a page store's invariant says of its sheets, and what its check comes to.
-use Rattle.std.proofs.Common.{◌≡◌, ℕ, ◌+◌, ◌*◌, ◌≤◌, true, false, eqb, ◌≢◌, List, [], ◌∷◌, length, get_or, take, is_ok, Ok, Err, vec_len, sum_by, Result, sym, refl, ap, ◌∙◌, arith, MatchResult}
+use Rattle.std.proofs.Common.{◌≡◌, ℕ, ◌+◌, ◌*◌, ◌≤◌, true, false, eqb, ◌≢◌, List, [], ◌∷◌, length, get_or, take, is_ok, Ok, Err, vec_items, vec_len, sum_by, Result, sym, refl, ap, ◌∙◌, arith, MatchResult}
 use Rattle.std.proofs.lemmas.List.Sums.{sum_by-cons}
 use Rattle.std.proofs.lemmas.Bool.{cond-false, eq-eqb, le-ltb, ne_eqb}
 use Rattle.refusals.specs.Refusals.{checked}
 use Rattle.refusals.specs.declared.refusal.Refusal.{Refusal}
 use Rattle.refusals.specs.declared.refusal.Refusal.TheVariants.{PastMemory, StoreLimit}
 use Rattle.refusals.proofs.Testing.{checked_stop}
-use Rattle.spans.specs.Cuts.{cut}
-use Rattle.stores.specs.Limits.{within_limits}
-use Rattle.spans.specs.Reaches.{Reached}
+use Rattle.stores.specs.Cuts.{cut}
+use Rattle.spans.specs.Limits.{within_limits}
+use Rattle.stores.specs.Reaches.{Reached}
 use Rattle.spans.specs.Rooms.{room, units_of}
 use Rattle.stores.specs.Sheets.{size_of, write_answer}
 use Rattle.spans.specs.Bounds.{bound_tests}
 use Rattle.spans.specs.Sizes.{limited}
-use Rattle.spans.proofs.Cutting.{size_cut}
+use Rattle.stores.proofs.Cutting.{size_cut}
 use Rattle.spans.proofs.Limiting.{limited_ok}
-use Rattle.spans.proofs.Reaching.{answered}
-use Rattle.pages.specs.PageStores.{fitted, listed_bytes, made_list, made_sheets, page_check, page_list, page_memory, page_sheets, page_sizes, page_tests}
+use Rattle.stores.proofs.Reaching.{answered}
+use Rattle.pages.specs.PageStores.{bytes_of, fitted, listed_bytes, made_list, made_sheets, page_check, page_sheets, page_sizes, page_tests}
 use Rattle.pages.specs.Paging.{all_inside, gathered, needed, none_twice}
+use Rattle.pages.specs.declared.pages.ListedPages.{ListedPages}
 use Rattle.pages.specs.declared.pages.Pages.{Pages}
 use Rattle.pages.proofs.Gathering.{length_gathered}
 
@@ -29,15 +30,16 @@ pub pages_sum : (zs : List ℕ) → sum_by (room 16) zs ≡ 16 * needed zs
 pages_sum [] = refl
 pages_sum (z ∷ zs) = omega (arith, sum_by-cons (room 16) z zs, sum_by-cons (units_of 16) z zs, pages_sum zs)
 
+module _ (l : ListedPages) where
+  pub whole_pages : all_inside (vec_items l.list) (length (vec_items l.memory)) ≡ true
+  whole_pages = let e : length (vec_items l.memory) ≡ vec_len l.memory = omega (arith, l.memory.ok.0) in ap (all_inside (vec_items l.list)) e ∙ l.whole
+
+  pub bytes_long : length (bytes_of l) ≡ 16 * length (vec_items l.list)
+  bytes_long = length_gathered (vec_items l.memory) (vec_items l.list) whole_pages
+
 module _ (s : Pages) where
-  pub inside_memory : all_inside (page_list s) (length (page_memory s)) ≡ true
-  inside_memory = let e : length (page_memory s) ≡ vec_len s.memory = omega (arith, s.memory.ok.0) in ap (all_inside (page_list s)) e ∙ s.whole
-
-  pub listed_long : length (listed_bytes s) ≡ 16 * length (page_list s)
-  listed_long = length_gathered (page_memory s) (page_list s) inside_memory
-
   inside : sum_by (room 16) (page_sizes s) ≤ length (listed_bytes s)
-  inside = omega (arith, pages_sum (page_sizes s), s.enough, s.list.ok.0, listed_long)
+  inside = omega (arith, pages_sum (page_sizes s), s.enough, s.listed.list.ok.0, bytes_long s.listed)
 
   pub page_size : (k : ℕ) → size_of (page_sheets s) k ≡ get_or (page_sizes s) k 0
   page_size k = size_cut (room 16) wide (page_sizes s) (listed_bytes s) k inside

@@ -3,30 +3,35 @@ use Rattle.std.specs.Prelude.{◌≡◌, ℕ, ◌+◌, cond, not, List, [], ◌�
 use Rattle.refusals.specs.Refusals.{Test, checked, on}
 use Rattle.refusals.specs.declared.refusal.Refusal.{Refusal}
 use Rattle.refusals.specs.declared.refusal.Refusal.TheVariants.{PastMemory, StoreLimit}
-use Rattle.spans.specs.Cuts.{cut}
-use Rattle.stores.specs.Limits.{within_limits}
+use Rattle.stores.specs.Cuts.{cut}
+use Rattle.spans.specs.Limits.{within_limits}
 use Rattle.spans.specs.Rooms.{room}
 use Rattle.stores.specs.Sheets.{write_answer}
 use Rattle.spans.specs.Sizes.{sizes_of}
 use Rattle.stores.specs.Splices.{spliced}
 use Rattle.pages.specs.Paging.{all_inside, gathered, needed, none_twice, OthersSame}
+use Rattle.pages.specs.declared.pages.ListedPages.{ListedPages}
 use Rattle.pages.specs.declared.pages.Pages.{Pages}
 
 -- every byte of the memory, also those of no sheet
 abbrev pub page_memory : Pages → List ℕ
-page_memory s = vec_items s.memory
+page_memory s = vec_items s.listed.memory
 
 -- the numbers of the pages that are used, in the order of the sheets
 abbrev pub page_list : Pages → List ℕ
-page_list s = vec_items s.list
+page_list s = vec_items s.listed.list
 
 -- the sizes of the sheets, in number order
 abbrev pub page_sizes : Pages → List ℕ
 page_sizes s = sizes_of s.sheets
 
 -- the bytes of the listed pages, one page after the other
+abbrev pub bytes_of : ListedPages → List ℕ
+bytes_of l = gathered (vec_items l.memory) (vec_items l.list)
+
+-- those of a page store
 abbrev pub listed_bytes : Pages → List ℕ
-listed_bytes s = gathered (page_memory s) (page_list s)
+listed_bytes s = bytes_of s.listed
 
 -- the sheets: each takes the next of the listed pages, as many as its size needs, and has as many of their bytes as its size
 abbrev pub page_sheets : Pages → List (List ℕ)

@@ -16,14 +16,20 @@ const PAGE: usize = 16;
 // The longest list of pages.
 const MOST_PAGES: usize = 1024;
 
+// A memory, and a list of some of its pages.
 #[derive(Drop)]
-pub struct Pages {
+struct ListedPages {
     memory: Vec<u8>,
     // The numbers of the pages that are used, in the order of the sheets.
     list: Vec<u16>,
-    sheets: Spans<16>,
     ghost short: { vec_len list ≤ 1024 },
-    ghost enough: { vec_len list ≡ needed (sizes_of sheets) },
     ghost apart: { none_twice list.items ≡ true },
     ghost whole: { all_inside list.items (vec_len memory) ≡ true },
+}
+
+#[derive(Drop)]
+pub struct Pages {
+    listed: ListedPages,
+    sheets: Spans<16>,
+    ghost enough: { vec_len listed.list ≡ needed (sizes_of sheets) },
 }

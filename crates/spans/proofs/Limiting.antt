@@ -1,7 +1,7 @@
 -- What sizes within the limits of a store are, and what is known where they were not refused.
 use Rattle.std.proofs.Common.{◌≡◌, ℕ, ◌<◌, ◌≤◌, true, not, ◌||◌, eqb, leb, List, length, get_or, Ok, ⊎_elim, arith}
 use Rattle.std.proofs.lemmas.Bool.{and_parts, cases_Bool, leb-true, not-false, or_parts}
-use Rattle.stores.specs.Limits.{small, within_limits}
+use Rattle.spans.specs.Limits.{small, within_limits}
 use Rattle.spans.specs.Sizes.{limited}
 use Rattle.spans.proofs.Placing.{small_at}
 

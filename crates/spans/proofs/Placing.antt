@@ -2,7 +2,7 @@
 use Rattle.std.proofs.Common.{◌≡◌, ℕ, zero, suc, ◌+◌, ◌*◌, ◌<◌, ◌≤◌, true, eqb, leb, List, [], ◌∷◌, ◌++◌, length, get_or, take, sum_by, sym, refl, ◌∙◌, add-zero, arith}
 use Rattle.std.proofs.lemmas.List.Sums.{sum_by-cons}
 use Rattle.std.proofs.lemmas.Bool.{and_from, and_parts, eq-eqb, eqb-true, le-leb, leb-true}
-use Rattle.stores.specs.Limits.{small}
+use Rattle.spans.specs.Limits.{small}
 use Rattle.spans.specs.Spans.{placed, sizes_in}
 use Rattle.spans.specs.declared.spans.span.Span.{Span}
 

@@ -1,6 +1,5 @@
 pub mod Bounds
-pub mod Cuts
-pub mod Reaches
+pub mod Limits
 pub mod Rooms
 pub mod Sizes
 pub mod Spans

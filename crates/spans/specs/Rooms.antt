@@ -8,3 +8,7 @@ units_of u z = (z + (u - 1)) / u
 -- how many bytes these have
 abbrev pub room : ℕ → ℕ → ℕ
 room u z = u * units_of u z
+
+-- where the units are single bytes: a sheet takes its size
+abbrev pub exact : ℕ → ℕ
+exact z = z

@@ -1,4 +1,4 @@
-mod Cutting
-mod Placing
-mod Reaching
+pub mod Cutting
+pub mod Reaching
+mod Slabbing
 pub mod Splicing

@@ -1,8 +1,8 @@
 -- What the calls of a store answer and leave, over its row of sheets.
-use Rattle.std.specs.Prelude.{ℕ, ◌+◌, cond, List, [], ◌∷◌, length, take, drop, is_ok, Result, nat_le, nat_lt, slice_index_or, slice_set}
-use Rattle.refusals.specs.Refusals.{Test, checked, on}
+use Rattle.std.specs.Prelude.{ℕ, cond, List, [], length, take, drop, is_ok, Result, slice_index_or, slice_set}
+use Rattle.refusals.specs.Refusals.{Test, checked}
 use Rattle.refusals.specs.declared.refusal.Refusal.{Refusal}
-use Rattle.refusals.specs.declared.refusal.Refusal.TheVariants.{NoSheet, PastEnd}
+use Rattle.spans.specs.Bounds.{bound_tests}
 use Rattle.stores.specs.Splices.{spliced}
 
 -- the bytes of sheet k, and none where there is no such sheet
@@ -15,7 +15,7 @@ size_of ss k = length (sheet_of ss k)
 
 -- b bytes from place p of sheet k are refused where there is no such sheet, and where they reach past its end
 abbrev pub reach_tests : List (List ℕ) → ℕ → ℕ → ℕ → List Test
-reach_tests ss k p b = on (nat_le (length ss) k) NoSheet ∷ on (nat_lt (size_of ss k) (p + b)) PastEnd ∷ []
+reach_tests ss k p b = bound_tests (length ss) (size_of ss k) k p b
 
 -- what a read of b bytes from place p of sheet k answers
 abbrev pub read_answer : List (List ℕ) → ℕ → ℕ → ℕ → Result (Unit {0}) Refusal

@@ -1,6 +1,5 @@
 // Stores of sheets: the trait that says what a store means, and the slab.
 #![tactic(auto)]
 
-mod copying;
 pub mod slab;
 pub mod store;

@@ -1,11 +1,11 @@
 // The calls of a page store.
 ghost use Rattle.std.specs.Prelude.{◌≡◌, length, Err, MatchResult};
-ghost use Rattle.spans.specs.Reaches.{Reached};
+ghost use Rattle.stores.specs.Reaches.{Reached};
 ghost use Rattle.spans.specs.Rooms.{room};
 ghost use Rattle.stores.specs.Sheets.{write_answer, written};
 ghost use Rattle.pages.specs.PageStores.{Rewritten, listed_bytes, page_sheets, page_sizes};
 
-use crate::pages::{Pages, copying};
+use crate::pages::Pages;
 use refusals::refusal::Refusal;
 use stores::store::Store;
 
@@ -31,7 +31,7 @@ impl Store for Pages {
 
     fn read(&self, sheet: u16, place: u32, buffer: &mut [u8]) -> Result<(), Refusal> {
         let at = self.reach(sheet, place, buffer.len())?;
-        copying::gather(self.memory.as_slice(), self.list.as_slice(), at, buffer);
+        self.listed.read(at, buffer);
         Ok(())
     }
 
@@ -41,7 +41,7 @@ impl Store for Pages {
         ensures memory { Rewritten self.old sheet place bytes.now self.new }
     {
         let at = self.reach(sheet, place, bytes.len())?;
-        copying::put(&mut self.memory, &self.list, at, bytes);
+        self.listed.write(at, bytes);
         Ok(())
     }
 }

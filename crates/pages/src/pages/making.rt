@@ -5,7 +5,7 @@ ghost use Rattle.spans.specs.Sizes.{sizes_of};
 ghost use Rattle.pages.specs.PageStores.{fitted, made_list, made_sheets, page_check, page_list, page_memory, page_sheets};
 ghost use Rattle.pages.specs.Paging.{all_inside, none_twice};
 
-use crate::pages::{MOST_PAGES, PAGE, Pages};
+use crate::pages::{ListedPages, MOST_PAGES, PAGE, Pages};
 use refusals::refusal::Refusal;
 use spans::spans::Spans;
 
@@ -13,24 +13,17 @@ use spans::spans::Spans;
 fn any_twice(list: &[u16]) -> bool
     ensures { result ≡ not (none_twice list.now) }
 {
-    for (i, page) in list.iter().enumerate() {
-        if list[i + 1..].contains(page) {
-            return true;
-        }
-    }
-    false
+    list.iter()
+        .enumerate()
+        .any(|(i, page)| list[i + 1..].contains(page))
 }
 
 // Whether each listed page lies whole inside a memory of this length.
 fn inside(list: &[u16], memory_len: usize) -> bool
     ensures { result ≡ all_inside list.now memory_len }
 {
-    for page in list {
-        if PAGE * *page as usize + PAGE > memory_len {
-            return false;
-        }
-    }
-    true
+    list.iter()
+        .all(|page| PAGE * usize::from(*page) + PAGE <= memory_len)
 }
 
 // How sheets of these sizes stand on the listed pages of a memory of this length.
@@ -71,14 +64,12 @@ impl Pages {
         let Ok(sheets) = fit(sizes, list.as_slice(), memory.len()) else {
             list.clear();
             return Pages {
-                memory,
-                list,
+                listed: ListedPages { memory, list },
                 sheets: Spans::none(),
             };
         };
         Pages {
-            memory,
-            list,
+            listed: ListedPages { memory, list },
             sheets,
         }
     }

@@ -13,24 +13,23 @@ impl<const UNIT: u16> Spans<UNIT> {
     pub fn count(&self) -> u16
         ensures { result ≡ length (sizes_of self.now) }
     {
-        self.count
+        // No plainer with `try_from`: there are at most 64, so its error could not come.
+        self.rows.len() as u16
     }
 
     // The size of a sheet, and 0 where there is no such sheet.
     pub fn size(&self, sheet: u16) -> u32
         ensures { result ≡ slice_index (sizes_of self.now) sheet }
     {
-        if sheet < self.count {
-            self.rows[sheet as usize].size
-        } else {
-            0
-        }
+        let rows = self.rows.as_slice();
+        rows.get(usize::from(sheet)).map_or(0, |span| span.size)
     }
 
     // How many bytes of the memory the sheets take.
     pub fn end(&self) -> usize
         ensures { result ≡ sum_by (room UNIT) (sizes_of self.now) }
     {
+        // No plainer otherwise: `usize` has no `From<u32>`.
         self.end as usize
     }
 
@@ -38,9 +37,8 @@ impl<const UNIT: u16> Spans<UNIT> {
     pub fn reach(&self, sheet: u16, place: u32, len: usize) -> Result<usize, Refusal>
         ensures { result ≡ checked (bound_tests (length (sizes_of self.now)) (slice_index (sizes_of self.now) sheet) sheet place len) (sum_by (room UNIT) (take sheet (sizes_of self.now)) + place) }
     {
-        if sheet >= self.count {
-            return Err(Refusal::NoSheet);
-        }
-        self.rows[sheet as usize].reach(place, len)
+        let rows = self.rows.as_slice();
+        let span = rows.get(usize::from(sheet)).ok_or(Refusal::NoSheet)?;
+        span.reach(place, len)
     }
 }

@@ -1,45 +1,19 @@
-// The spans of sheets of given sizes, and the limits of a store.
-ghost use Rattle.std.specs.Prelude.{◌≡◌, ◌+◌, ◌-◌, ◌<◌, ◌≤◌, [], ◌∷◌, ◌++◌, length, nat_le};
+// The spans of sheets of given sizes.
+ghost use Rattle.std.specs.Prelude.{◌≡◌, ◌<◌, ◌≤◌, [], ◌∷◌, ◌++◌, length};
 ghost use Rattle.std.specs.Result.{result_map_both};
-ghost use Rattle.stores.specs.Limits.{within_limits};
-ghost use Rattle.spans.specs.Rooms.{room};
+ghost use Rattle.spans.specs.Limits.{within_limits};
 ghost use Rattle.spans.specs.Sizes.{limited, sizes_of};
 
 use crate::spans::span::Span;
 use crate::spans::{MOST_BYTES, MOST_SHEETS, Spans};
+use arrayvec::ArrayVec;
 use refusals::refusal::Refusal;
-
-// Whether a sheet may have this size.
-fn allowed(size: u32) -> bool
-    ensures { result ≡ nat_le size 4096 }
-{
-    size <= MOST_BYTES
-}
 
 // Whether there are few enough sheets, none of them too large.
 fn within(sizes: &[u32]) -> bool
     ensures { result ≡ within_limits sizes.now }
 {
-    if sizes.len() > MOST_SHEETS {
-        return false;
-    }
-    for size in sizes {
-        if !allowed(*size) {
-            return false;
-        }
-    }
-    true
-}
-
-// A size, rounded up to whole units.
-fn rounded(size: u32, unit: u16) -> u32
-    requires unit { 0 < unit }
-    requires size { size ≤ 4096 }
-    ensures value { result ≡ room unit size }
-    ensures bound { result ≤ size + (unit - 1) }
-{
-    let unit = unit as u32;
-    (size + (unit - 1)) / unit * unit
+    sizes.len() <= MOST_SHEETS && sizes.iter().all(|size| *size <= MOST_BYTES)
 }
 
 impl<const UNIT: u16> Spans<UNIT> {
@@ -48,8 +22,7 @@ impl<const UNIT: u16> Spans<UNIT> {
         ensures { sizes_of result ≡ [] }
     {
         Spans {
-            count: 0,
-            rows: [Span::NONE; MOST_SHEETS],
+            rows: ArrayVec::new(),
             end: 0,
         }
     }
@@ -61,10 +34,12 @@ impl<const UNIT: u16> Spans<UNIT> {
         requires size { size ≤ 4096 }
         ensures { sizes_of self.new ≡ sizes_of self.old ++ size ∷ [] }
     {
-        let start = self.end;
-        self.rows[self.count as usize] = Span { start, size };
-        self.count += 1;
-        self.end = start + rounded(size, UNIT);
+        let room = size.next_multiple_of(u32::from(UNIT));
+        self.rows.push(Span {
+            start: self.end,
+            size,
+        });
+        self.end += room;
     }
 
     // Sheets of these sizes; refused where a limit of a store is passed, and where a unit would have no bytes.

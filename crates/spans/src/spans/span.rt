@@ -6,20 +6,18 @@ ghost use Rattle.refusals.specs.declared.refusal.Refusal.TheVariants.{PastEnd};
 use refusals::refusal::Refusal;
 
 // A sheet has the `size` bytes of the memory from `start` on.
-#[derive(Clone, Copy)]
+#[derive(Clone, Copy, Default)]
 pub struct Span {
     pub start: u32,
     pub size: u32,
 }
 
 impl Span {
-    // What stands in a table past the last sheet.
-    pub const NONE: Span = Span { start: 0, size: 0 };
-
     // Where `len` bytes from `place` of the sheet start.
     pub fn reach(self, place: u32, len: usize) -> Result<usize, Refusal>
         ensures { result ≡ checked (on (nat_lt self.size (place + len)) PastEnd ∷ []) (self.start + place) }
     {
+        // The conversions are no plainer otherwise: `usize` has no `From<u32>`, and `try_from` an error that could not come.
         if place > self.size || len > (self.size - place) as usize {
             return Err(Refusal::PastEnd);
         }

@@ -1,44 +1,22 @@
 // The check that comes before a slab is made, and the making.
-ghost use Rattle.std.specs.Prelude.{◌≡◌, ◌≤◌, length, sum, nat_le};
-ghost use Rattle.stores.specs.Limits.{within_limits};
-ghost use Rattle.stores.specs.Slabs.{made_sheets, slab_check, slab_memory, slab_sheets};
+ghost use Rattle.std.specs.Prelude.{◌≡◌};
+ghost use Rattle.std.specs.Result.{result_map_both};
+ghost use Rattle.spans.specs.Sizes.{sizes_of};
+ghost use Rattle.stores.specs.Slabs.{fitted, made_sheets, slab_check, slab_memory, slab_sheets};
 
-use crate::slab::span::{Span, end_to_end};
-use crate::slab::{MOST_BYTES, MOST_SHEETS, Slab};
+use crate::slab::Slab;
 use refusals::refusal::Refusal;
+use spans::spans::Spans;
 
-// Whether a sheet may have this size.
-fn allowed(size: u32) -> bool
-    ensures { result ≡ nat_le size 4096 }
+// How sheets of these sizes stand in a memory of this length.
+fn fit(sizes: &[u32], memory_len: usize) -> Result<Spans<1>, Refusal>
+    ensures { result_map_both sizes_of (λ e. e) result ≡ fitted sizes.now memory_len }
 {
-    size <= MOST_BYTES
-}
-
-// Whether there are few enough sheets, none of them too large.
-fn within(sizes: &[u32]) -> bool
-    ensures { result ≡ within_limits sizes.now }
-{
-    if sizes.len() > MOST_SHEETS {
-        return false;
+    let sheets = Spans::new(sizes)?;
+    if sheets.end() > memory_len {
+        return Err(Refusal::PastMemory);
     }
-    for size in sizes {
-        if !allowed(*size) {
-            return false;
-        }
-    }
-    true
-}
-
-// The sum of the sizes, which are few.
-fn total(sizes: &[u32]) -> usize
-    requires { length sizes.now ≤ 64 }
-    ensures { result ≡ sum sizes.now }
-{
-    let mut all: usize = 0;
-    for size in sizes {
-        all += *size as usize;
-    }
-    all
+    Ok(sheets)
 }
 
 impl Slab {
@@ -46,12 +24,7 @@ impl Slab {
     pub fn check(sizes: &[u32], memory_len: usize) -> Result<(), Refusal>
         ensures { result ≡ slab_check sizes.now memory_len }
     {
-        if !within(sizes) {
-            return Err(Refusal::StoreLimit);
-        }
-        if total(sizes) > memory_len {
-            return Err(Refusal::PastMemory);
-        }
+        fit(sizes, memory_len)?;
         Ok(())
     }
 
@@ -60,17 +33,7 @@ impl Slab {
         ensures sheets { slab_sheets result ≡ made_sheets sizes.now memory.items }
         ensures memory { slab_memory result ≡ memory.items }
     {
-        if Slab::check(sizes, memory.len()).is_err() {
-            return Slab {
-                memory,
-                count: 0,
-                spans: [Span::NONE; MOST_SHEETS],
-            };
-        }
-        Slab {
-            memory,
-            count: sizes.len() as u16,
-            spans: end_to_end(sizes),
-        }
+        let sheets = fit(sizes, memory.len()).unwrap_or_else(|_| Spans::none());
+        Slab { memory, sheets }
     }
 }

@@ -1,6 +1,6 @@
 use Rattle.std.proofs.Common.{sym, ◌∙◌}
 use Rattle.spans.specs.Rooms.{room}
-use Rattle.spans.proofs.Cutting.{length_cut}
+use Rattle.stores.proofs.Cutting.{length_cut}
 use Rattle.pages.specs.PageStores.{listed_bytes, page_sizes}
 use Rattle.pages.proofs.pages.calls.PagesStore.count.Goals as goal
 

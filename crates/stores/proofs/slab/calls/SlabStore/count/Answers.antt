@@ -1,6 +1,8 @@
-use Rattle.std.proofs.Common.{sym}
-use Rattle.stores.proofs.Reaching.{slab_count}
+use Rattle.std.proofs.Common.{sym, ◌∙◌}
+use Rattle.spans.specs.Rooms.{exact}
+use Rattle.stores.specs.Slabs.{slab_memory, slab_sizes}
+use Rattle.stores.proofs.Cutting.{length_cut}
 use Rattle.stores.proofs.slab.calls.SlabStore.count.Goals as goal
 
 pub returns : goal.returns
-returns c = sym (slab_count c.args.self.now)
+returns c = let s = c.args.self.now in c.count.ensures ∙ sym (length_cut exact (slab_sizes s) (slab_memory s))
