@@ -4,6 +4,7 @@ use lib.ListN.{length-map}
 use Rattle.std.specs.List.{AllByRecursion, list_all}
 use Rattle.std.proofs.lemmas.List.FromFn.{length-map-range_with_len, get_or-map-range_with_len}
 use Rattle.std.proofs.lemmas.List.{get_or-map, get_or_past}
+use Rattle.std.proofs.lemmas.List.Sums.{AllPass-from_list_all}
 use Rattle.std.proofs.lemmas.Bool.{cases_Bool, cases_lt, false≢true, both_ways, and_parts, or_cases, not-true, not-false, eqb-true, cond-true, cond-false}
 use Rattle.register.specs.Certificates.{certificate_in}
 use Rattle.register.specs.Layout.{decoded}
@@ -49,11 +50,6 @@ found_tested p (c ∷ cs) k d all e =
     (λ t. subst (Tested p) (some_is (sym (cond-true _ _ _ t) ∙ e)) all.0)
     (λ f. found_tested p cs k d all.1 (sym (cond-false _ _ _ f) ∙ e))
     (cases_Bool (eqb c.program k))
-
-pass_at : {A : Type 0} (test : A → Bool) (xs : List A) (i : ℕ) (d : A) → i < length xs → list_all test xs ≡ true → test (get_or xs i d) ≡ true
-pass_at test [] i d h e = absurd (omega arith)
-pass_at test (x ∷ xs) zero d h e = (and_parts _ _ e).0
-pass_at test (x ∷ xs) (suc i) d h e = pass_at test xs i d (omega arith) (and_parts _ _ e).1
 
 held_tested : (p : Policy) (cs : List Certificate) (k : ℕ) (o : Option Certificate) → AllByRecursion (Tested p) cs → certificate_in cs k ≡ o → is_some o ≡ true → Tested p (held o)
 held_tested p cs k None all e h = absurd (false≢true h)
@@ -104,7 +100,7 @@ module _ (marks grades : Order) (bs : List ℕ) (floor : ℕ) where
           let starts = (and_parts (list_all size_fits b.entries && programs_climb (length b.entries) b.certificates) _ (not-false _ passed.1.1.1.1.0)).1 in
           subst (λ x. Tested (fixed marks grades b floor) x.certificate) (sym (get_or-map (seat_for b.certificates) b.starts i 0 blank_seat inside))
           (held_tested (fixed marks grades b floor) b.certificates (get_or b.starts i 0) _ table_tested refl
-          (pass_at (is_program b.certificates) b.starts i 0 inside starts));
+          (AllPass-from_list_all (is_program b.certificates) b.starts starts i 0 inside));
     }
 
     -- the sheets keep the register's sizes, whatever calls follow

@@ -1,3 +1,4 @@
+use Rattle.std.specs.Option.{is_some}
 use Rattle.std.proofs.Common.{◌≡◌, string_bytes, ap, ◌∙◌}
 use Rattle.std.proofs.lemmas.Result.{IfOk-from_err}
 use Rattle.pages.specs.PageStores.{page_sheets}
@@ -16,4 +17,4 @@ returns c =
     let sheets = ap page_sheets c.new-vault.ensures.store ∙ c.in_ok-store.ensures in
     let said : string_bytes c.in_ok-text.field-0 ≡ day_text marking grading storing v c.register.result.now floor c.args.input.now = c.in_ok-text.ensures in
     said
-    ∙ example_day storing v c.new-grades.result c.register.result.now c.args.input.now c.new-vault.ensures.grades c.new-grades.ensures sheets c.new-vault.ensures.is_open c.register.ensures
+    ∙ example_day storing v c.new-grades.result c.register.result.now c.args.input.now c.new-vault.ensures.grades c.new-grades.ensures sheets (ap is_some c.new-vault.ensures.opening) c.register.ensures
