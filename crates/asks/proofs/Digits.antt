@@ -8,7 +8,12 @@ use Rattle.std.proofs.lemmas.Bool.{and_parts, and_from, leb-true, le-leb}
 use Rattle.std.proofs.lemmas.Str.Parse.{IsNumeralModel, numerals_by_fold, tells_all_ascii_digits}
 use Rattle.std.proofs.lemmas.Fmt.{digits_decimal, digits_value-decimal, decimal_nonempty, length-decimal-le}
 use Rattle.std.specs.Bool.{then_some}
+use Rattle.std.specs.List.{list_all}
 use Rattle.asks.specs.Numbers.{number, from_last, few_digits, ReadsBack, ByLast}
+
+pub each_digit : (ds : List ℕ) → list_all is_ascii_digit ds ≡ all_ascii_digits ds
+each_digit [] = refl
+each_digit (d ∷ ds) = ap (λ b. is_ascii_digit d && b) (each_digit ds)
 
 -- one more digit at the end
 digits_push : (ds : List ℕ) (d : ℕ) → all_ascii_digits (ds ++ d ∷ []) ≡ true → (all_ascii_digits ds ≡ true) × (is_ascii_digit d ≡ true)

@@ -15,7 +15,7 @@ use Rattle.asks.specs.declared.answer.Answer.TheVariants.{Opened}
 use Rattle.vault.specs.Meaning.{policy, state, opening_of, answer_of, Left, Kept}
 use Rattle.vault.specs.declared.vault.Vault.{Vault}
 use Rattle.opening.specs.Tables.{rows_of}
-use Rattle.dayrun.specs.Days.{ended, asks_of, asks_text, printed, opening_number, opened_policy, opened_state, day_text}
+use Rattle.dayrun.specs.Days.{ended, asks_of, asks_text, printed, opened_policy, opened_state, day_text}
 use Rattle.dayrun.specs.Steps.{ask_text, ask_after}
 
 one_more : (p : Policy) (s : State) (ask : Option Call) (asks : List (Option Call)) → asks_text p s (ask ∷ asks) ≡ ended (ask_text p s ask) ++ asks_text p (ask_after p s ask) asks
@@ -64,22 +64,22 @@ module _ {M G S : Type 0} (m : Ordering M) (g : Ordering G) (s : Storage S) (v w
   left_state (Ok b) h = λ j. record { seats = h.seats j; contents = s.sheets (h.store j) }
   left_state (Err e) h = ap (state s) h
 
-  pub whole_day : (bs input opened all : List ℕ) → Left v floor (opening_of m g s v bs floor) w → opened ≡ [] ++ ended (line_text (Opened (opening_number (answer_of (opening_of m g s v bs floor))))) →
+  pub whole_day : (bs input opened all : List ℕ) → Left v floor (opening_of m g s v bs floor) w → opened ≡ [] ++ ended (line_text (Opened (answer_of (opening_of m g s v bs floor)))) →
       all ≡ opened ++ printed (policy m g w) (state s w) input → all ≡ day_text m g s v bs floor input
   whole_day bs input opened all left first rest =
       rest ∙ ap (λ b. b ++ printed (policy m g w) (state s w) input) first
-      ∙ ap (λ p. ended (line_text (Opened (opening_number (answer_of (opening_of m g s v bs floor))))) ++ printed p (state s w) input) (left_policy (opening_of m g s v bs floor) left)
-      ∙ ap (λ t. ended (line_text (Opened (opening_number (answer_of (opening_of m g s v bs floor))))) ++ printed (opened_policy m g s v floor (opening_of m g s v bs floor)) t input) (left_state (opening_of m g s v bs floor) left)
+      ∙ ap (λ p. ended (line_text (Opened (answer_of (opening_of m g s v bs floor)))) ++ printed p (state s w) input) (left_policy (opening_of m g s v bs floor) left)
+      ∙ ap (λ t. ended (line_text (Opened (answer_of (opening_of m g s v bs floor)))) ++ printed (opened_policy m g s v floor (opening_of m g s v bs floor)) t input) (left_state (opening_of m g s v bs floor) left)
 
 -- a day that begins with an accepted opening of a closed vault
 pub opened_day : {M G S : Type 0} (m : Ordering M) (g : Ordering G) (s : Storage S) (v : Vault M G S) (bs input : List ℕ) (floor : ℕ) (marks grades : Order) (contents : List (List ℕ)) (b : Book) →
     order m v.marks ≡ marks → order g v.grades ≡ grades → s.sheets v.store ≡ contents → v.«open» ≡ false → opening marks grades bs floor contents false ≡ Ok b →
-    day_text m g s v bs floor input ≡ ended (line_text (Opened 0)) ++ printed (fixed marks grades b floor) (started b contents) input
+    day_text m g s v bs floor input ≡ ended (line_text (Opened (Ok tt))) ++ printed (fixed marks grades b floor) (started b contents) input
 opened_day m g s v bs input floor marks grades contents b em eg es eo ok =
-    ap (λ o. ended (line_text (Opened (opening_number (answer_of o)))) ++ printed (opened_policy m g s v floor o) (opened_state m g s v o) input) opens
-    ∙ ap (λ x. ended (line_text (Opened 0)) ++ printed (fixed x (order g v.grades) b floor) (started b (s.sheets v.store)) input) em
-    ∙ ap (λ x. ended (line_text (Opened 0)) ++ printed (fixed marks x b floor) (started b (s.sheets v.store)) input) eg
-    ∙ ap (λ x. ended (line_text (Opened 0)) ++ printed (fixed marks grades b floor) (started b x) input) es
+    ap (λ o. ended (line_text (Opened (answer_of o))) ++ printed (opened_policy m g s v floor o) (opened_state m g s v o) input) opens
+    ∙ ap (λ x. ended (line_text (Opened (Ok tt))) ++ printed (fixed x (order g v.grades) b floor) (started b (s.sheets v.store)) input) em
+    ∙ ap (λ x. ended (line_text (Opened (Ok tt))) ++ printed (fixed marks x b floor) (started b (s.sheets v.store)) input) eg
+    ∙ ap (λ x. ended (line_text (Opened (Ok tt))) ++ printed (fixed marks grades b floor) (started b x) input) es
   where
     opens : opening_of m g s v bs floor ≡ Ok b
     opens =
