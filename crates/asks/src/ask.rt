@@ -34,9 +34,8 @@ pub struct Malformed;
 
 const MOST_BYTES: usize = 200;
 
-pub(crate) const MOST_SEAT: u64 = u16::MAX as u64;
-
-pub(crate) const MOST_SHEET: u64 = u16::MAX as u64;
+// The highest number of a seat or a sheet.
+pub(crate) const MOST_NUMBER: u64 = u16::MAX as u64;
 
 pub(crate) const MOST_PLACE: u64 = u32::MAX as u64;
 
@@ -45,11 +44,11 @@ const MOST_SLIP: u64 = u64::MAX;
 const BLANK: &[u8] = b"----";
 
 // Seat, sheet and place of a write, and its bytes.
-fn write<'a>(text: &'a [u8]) -> Result<Ask<'a>, Malformed>
+fn write(text: &[u8]) -> Result<Ask<'_>, Malformed>
     ensures { lines.asked result ≡ lines.writing text.now }
 {
-    let (seat, text) = field(text, MOST_SEAT)?;
-    let (sheet, text) = field(text, MOST_SHEET)?;
+    let (seat, text) = field(text, MOST_NUMBER)?;
+    let (sheet, text) = field(text, MOST_NUMBER)?;
     let (place, text) = field(text, MOST_PLACE)?;
     let bytes = rest_or(text, BLANK)?;
     Ok(Ask::Write {
@@ -61,11 +60,11 @@ fn write<'a>(text: &'a [u8]) -> Result<Ask<'a>, Malformed>
 }
 
 // Seat, sheet and slip of a hand over, up to the end of the line.
-fn hand<'a>(text: &'a [u8]) -> Result<Ask<'a>, Malformed>
+fn hand(text: &[u8]) -> Result<Ask<'_>, Malformed>
     ensures { lines.asked result ≡ lines.handing text.now }
 {
-    let (seat, text) = field(text, MOST_SEAT)?;
-    let (sheet, text) = field(text, MOST_SHEET)?;
+    let (seat, text) = field(text, MOST_NUMBER)?;
+    let (sheet, text) = field(text, MOST_NUMBER)?;
     let slip = last_field(text, MOST_SLIP)?;
     Ok(Ask::Hand {
         seat: seat as u16,
@@ -75,15 +74,15 @@ fn hand<'a>(text: &'a [u8]) -> Result<Ask<'a>, Malformed>
 }
 
 // The seat that is told, up to the end of the line.
-fn tell<'a>(text: &'a [u8]) -> Result<Ask<'a>, Malformed>
+fn tell(text: &[u8]) -> Result<Ask<'_>, Malformed>
     ensures { lines.asked result ≡ lines.telling text.now }
 {
-    let seat = last_field(text, MOST_SEAT)?;
+    let seat = last_field(text, MOST_NUMBER)?;
     Ok(Ask::Tell { seat: seat as u16 })
 }
 
 // The call that a line says. Each line that breaks a rule is malformed, and so is one of over 200 bytes.
-pub fn parse<'a>(line: &'a [u8]) -> Result<Ask<'a>, Malformed>
+pub fn parse(line: &[u8]) -> Result<Ask<'_>, Malformed>
     ensures { lines.asked result ≡ lines.parsed line.now }
 {
     if line.len() > MOST_BYTES {

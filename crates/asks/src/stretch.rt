@@ -1,10 +1,11 @@
 // What a read and a run name: a stretch of a sheet.
 ghost use Rattle.std.specs.Prelude.{◌≤◌};
 
-use crate::ask::{MOST_PLACE, MOST_SEAT, MOST_SHEET, Malformed};
+use crate::ask::{MOST_NUMBER, MOST_PLACE, Malformed};
 use crate::fields::{field, last_field};
 
-const MOST_SIZE: u64 = 64;
+// The largest buffer of a read or a run.
+pub const MOST_SIZE: usize = 64;
 
 // The bytes of a sheet that fill a buffer, the seat that asks for them, and the buffer's size.
 #[derive(Clone, Copy, Debug)]
@@ -26,10 +27,10 @@ impl Stretch {
     pub(crate) fn parse(text: &[u8]) -> Result<Stretch, Malformed>
         ensures { option_map lines.parts (result_ok result) ≡ lines.stretch text.now }
     {
-        let (seat, text) = field(text, MOST_SEAT)?;
-        let (sheet, text) = field(text, MOST_SHEET)?;
+        let (seat, text) = field(text, MOST_NUMBER)?;
+        let (sheet, text) = field(text, MOST_NUMBER)?;
         let (place, text) = field(text, MOST_PLACE)?;
-        let size = last_field(text, MOST_SIZE)?;
+        let size = last_field(text, MOST_SIZE as u64)?;
         Ok(Stretch {
             seat: seat as u16,
             sheet: sheet as u16,

@@ -9,13 +9,12 @@ use Rattle.model.specs.Orders.{Order, order}
 use Rattle.model.specs.States.{Policy, State}
 use Rattle.model.specs.Opening.{opening, fixed, started}
 use Rattle.asks.specs.Lines.{parsed}
-use Rattle.asks.specs.Rows.{rows}
 use Rattle.asks.specs.Replies.{line_text}
 use Rattle.asks.specs.declared.answer.Answer.TheVariants.{Opened}
 use Rattle.vault.specs.Meaning.{policy, state, opening_of, answer_of, Left, Kept}
 use Rattle.vault.specs.declared.vault.Vault.{Vault}
 use Rattle.opening.specs.Tables.{rows_of}
-use Rattle.dayrun.specs.Days.{ended, asks_of, asks_text, printed, opened_policy, opened_state, day_text}
+use Rattle.dayrun.specs.Days.{ended, asks_text, printed, opened_policy, opened_state, day_text}
 use Rattle.dayrun.specs.Steps.{ask_text, ask_after}
 
 one_more : (p : Policy) (s : State) (ask : Option Call) (asks : List (Option Call)) → asks_text p s (ask ∷ asks) ≡ ended (ask_text p s ask) ++ asks_text p (ask_after p s ask) asks
@@ -23,20 +22,13 @@ one_more p s None asks = refl
 one_more p s (Some c) asks = refl
 
 -- the text so far, with what is left to print
-pub goes_on : (p q : Policy) (s t : State) (whole before after line rest more : List ℕ) → q ≡ p → before ++ printed p s rest ≡ whole → rows rest ≡ line ∷ rows more →
-    after ≡ before ++ ended (ask_text q s (parsed line)) → t ≡ ask_after q s (parsed line) → after ++ printed p t more ≡ whole
-goes_on p q s t whole before after line rest more same so cut put moved =
-    ap (λ b. b ++ printed p t more) (put ∙ ap (λ r. before ++ ended (ask_text r s (parsed line))) same)
-    ∙ append_assoc before (ended (ask_text p s (parsed line))) (printed p t more)
-    ∙ ap (λ u. before ++ (ended (ask_text p s (parsed line)) ++ printed p u more)) (moved ∙ ap (λ r. ask_after r s (parsed line)) same)
-    ∙ ap (λ l. before ++ l) (sym (one_more p s (parsed line) (asks_of more)))
-    ∙ ap (λ ls. before ++ lines_text ls) (sym cut) ∙ so
-  where
-    lines_text : List (List ℕ) → List ℕ
-    lines_text ls = asks_text p s (map parsed ls)
+pub goes_on : (p q : Policy) (s t : State) (whole before after line : List ℕ) (lines more : List (List ℕ)) → q ≡ p → before ++ asks_text p s (map parsed lines) ≡ whole → lines ≡ line ∷ more →
+    after ≡ before ++ ended (ask_text q s (parsed line)) → t ≡ ask_after q s (parsed line) → after ++ asks_text p t (map parsed more) ≡ whole
+goes_on p q s t whole before after line lines more same so cut put moved =
+    rw (put, moved, same, append_assoc, ← one_more p s (parsed line) (map parsed more)) (rw cut at so)
 
-pub stops : (p : Policy) (s : State) (whole before rest : List ℕ) → before ++ printed p s rest ≡ whole → rows rest ≡ [] → before ≡ whole
-stops p s whole before rest so none = sym (append-nil before) ∙ ap (λ ls. before ++ asks_text p s (map parsed ls)) (sym none) ∙ so
+pub stops : (p : Policy) (s : State) (whole before : List ℕ) (lines : List (List ℕ)) → before ++ asks_text p s (map parsed lines) ≡ whole → lines ≡ [] → before ≡ whole
+stops p s whole before lines so none = sym (append-nil before) ∙ rw none at so
 
 -- what no call changes is the policy
 pub same_policy : {M G S : Type 0} (m : Ordering M) (g : Ordering G) (v w : Vault M G S) → Kept v w → policy m g w ≡ policy m g v

@@ -10,14 +10,12 @@ ghost use Rattle.dayrun.specs.Steps.{call_text, ask_text, ask_after};
 
 use asks::answer::Answer;
 use asks::ask::{Ask, Malformed, parse};
+use asks::stretch::MOST_SIZE;
 use orders::order::Order;
 use refusals::refusal::Refusal;
 use std::alloc::AllocError;
 use stores::store::Store;
 use vault::vault::Vault;
-
-// The largest buffer of a read or a run.
-const MOST_BUFFER: usize = 64;
 
 // Adds a line to the text.
 pub fn print(out: &mut String, line: Answer<'_>) -> Result<(), AllocError>
@@ -30,16 +28,16 @@ pub fn print(out: &mut String, line: Answer<'_>) -> Result<(), AllocError>
 fn ask_vault<'a, M: Order, G: Order, S: Store>(
     vault: &mut Vault<M, G, S>,
     ask: Ask<'_>,
-    buffer: &'a mut [u8; MOST_BUFFER],
+    buffer: &'a mut [u8; MOST_SIZE],
 ) -> Result<Answer<'a>, Refusal>
     ensures said { said_line result ≡ call_text (policy M.Order G.Order vault.old) (state S.Store vault.old) (call ask.entry) }
     ensures after { state S.Store vault.new ≡ after (policy M.Order G.Order vault.old) (state S.Store vault.old) (call ask.entry) }
     ensures kept { Kept vault.old vault.new }
 {
     match ask {
-        Ask::Read(s) => {
-            let part = &mut buffer[..usize::from(s.size)];
-            vault.read(s.seat, s.sheet, s.place, part)?;
+        Ask::Read(stretch) => {
+            let part = &mut buffer[..usize::from(stretch.size)];
+            vault.read(stretch.seat, stretch.sheet, stretch.place, part)?;
             Ok(Answer::Filled(part))
         }
         Ask::Write {
@@ -51,9 +49,9 @@ fn ask_vault<'a, M: Order, G: Order, S: Store>(
             vault.write(seat, sheet, place, bytes)?;
             Ok(Answer::Done)
         }
-        Ask::Run(s) => {
-            let part = &mut buffer[..usize::from(s.size)];
-            vault.run(s.seat, s.sheet, s.place, part)?;
+        Ask::Run(stretch) => {
+            let part = &mut buffer[..usize::from(stretch.size)];
+            vault.run(stretch.seat, stretch.sheet, stretch.place, part)?;
             Ok(Answer::Filled(part))
         }
         Ask::Hand { seat, sheet, slip } => {
@@ -77,7 +75,7 @@ pub fn answer_line<M: Order, G: Order, S: Store>(
     ensures after { state S.Store vault.new ≡ ask_after (policy M.Order G.Order vault.old) (state S.Store vault.old) (parsed line.now) }
     ensures kept { Kept vault.old vault.new }
 {
-    let mut buffer = [0; MOST_BUFFER];
+    let mut buffer = [0; MOST_SIZE];
     match parse(line) {
         Ok(ask) => match ask_vault(vault, ask, &mut buffer) {
             Ok(answer) => print(out, answer),

@@ -7,7 +7,7 @@ ghost use Rattle.dayrun.specs.Days.{ended, printed, day_text};
 
 use crate::answering;
 use asks::answer::Answer;
-use asks::lines::first_line;
+use asks::lines::Lines;
 use orders::order::Order;
 use std::alloc::{AllocError, Global};
 use stores::store::Store;
@@ -37,10 +37,8 @@ fn answer_all<M: Order, G: Order, S: Store>(
 ) -> Result<(), AllocError>
     ensures { OnOk result (string_bytes out.new ≡ string_bytes out.old ++ printed (policy M.Order G.Order vault.old) (state S.Store vault.old) input.now) }
 {
-    let mut rest = input;
-    while let Some((line, after)) = first_line(rest) {
+    for line in Lines::new(input) {
         answering::answer_line(vault, out, line)?;
-        rest = after;
     }
     Ok(())
 }

@@ -6,12 +6,12 @@ use Rattle.dayrun.proofs.day.answer_all.Goals as goal
 pub loop-line-preserved : goal.loop-line-preserved
 loop-line-preserved g c =
     let inv = c.loop-line.invariant in
-    let said = c.in_ok-answer_line.ensures in (
-      same_policy g.M.Order g.G.Order c.loop-line.vault c.answer_line.new.vault said.kept ∙ inv.0,
-      goes_on (policy g.M.Order g.G.Order c.args.vault.now) (policy g.M.Order g.G.Order c.loop-line.vault) (state g.S.Store c.loop-line.vault) (state g.S.Store c.answer_line.new.vault)
-          _ _ _ c.in-Some.line.now c.loop-line.rest.now c.in-Some.after.now inv.0 inv.1 c.in-Some.ensures.first said.bytes said.after,
-    )
+    let said = c.in_ok-answer_line.ensures in
+    record {
+      policy_stays = same_policy g.M.Order g.G.Order c.loop-line.vault c.answer_line.new.vault said.kept ∙ inv.policy_stays;
+      text = goes_on (policy g.M.Order g.G.Order c.args.vault.now) (policy g.M.Order g.G.Order c.loop-line.vault) (state g.S.Store c.loop-line.vault) (state g.S.Store c.answer_line.new.vault)
+          _ _ _ c.in-Some.line.now _ _ inv.policy_stays inv.text c.in-Some.ensures.steps said.bytes said.after;
+    }
 
 pub returns : goal.returns
-returns g c =
-    stops (policy g.M.Order g.G.Order c.args.vault.now) (state g.S.Store c.loop-line.vault) _ _ c.loop-line.rest.now c.loop-line.invariant.1 c.in_default.ensures.first
+returns g c = stops (policy g.M.Order g.G.Order c.args.vault.now) (state g.S.Store c.loop-line.vault) _ _ _ c.loop-line.invariant.text c.in-None.ensures.steps.0
