@@ -5,7 +5,8 @@ use Rattle.std.proofs.lemmas.Slice.{between_to_end}
 use Rattle.std.proofs.lemmas.Option.{MatchOption-at_some}
 use Rattle.std.specs.Option.{unwrap_or}
 use Rattle.std.specs.List.{PartBy}
-use Rattle.asks.specs.Rows.{before, onto_first, rows, split_line}
+use Rattle.std.specs.List.{onto_first}
+use Rattle.asks.specs.Rows.{before, rows, split_line}
 
 -- the rows of a text whose first byte is an end or none
 by_first : (ended : Bool) (b : ℕ) (text : List ℕ) → let n : ℕ = cond (not ended) (1 + before 10 text) 0 in cond ended ([] ∷ rows text) (onto_first b (rows text)) ≡ take n (b ∷ text) ∷ rows (drop (n + 1) (b ∷ text))
