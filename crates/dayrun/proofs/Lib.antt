@@ -1,2 +1,1 @@
 pub mod Exampled
-pub mod Lining
