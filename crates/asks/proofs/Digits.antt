@@ -8,7 +8,13 @@ use Rattle.std.proofs.lemmas.Bool.{and_parts, and_from, leb-true, le-leb}
 use Rattle.std.proofs.lemmas.Str.Parse.{IsNumeralModel, numerals_by_fold, tells_all_ascii_digits}
 use Rattle.std.proofs.lemmas.Fmt.{digits_decimal, digits_value-decimal, decimal_nonempty, length-decimal-le}
 use Rattle.std.specs.Bool.{then_some}
+use Rattle.std.specs.List.{list_all}
 use Rattle.asks.specs.Numbers.{number, from_last, few_digits, ReadsBack, ByLast}
+
+-- each byte of a text of digits is one
+pub each_digit : (ds : List ℕ) → list_all is_ascii_digit ds ≡ all_ascii_digits ds
+each_digit [] = refl
+each_digit (d ∷ ds) = ap (λ b. is_ascii_digit d && b) (each_digit ds)
 
 -- one more digit at the end
 digits_push : (ds : List ℕ) (d : ℕ) → all_ascii_digits (ds ++ d ∷ []) ≡ true → (all_ascii_digits ds ≡ true) × (is_ascii_digit d ≡ true)
@@ -43,10 +49,6 @@ parted ds some h =
       is = ap number whole ∙ by_last (take n ds) (get_or ds n 0);
       power = ap (λ k. 10 ^ k) (sym back ∙ add-one n) ∙ pow-suc 10 n ∙ ap (λ k. 10 ^ k * 10) (sym (length-take-le n ds (omega arith)));
     }
-
-pub none : (ds : List ℕ) → length ds ≡ 0 → record { value : 0 ≡ number ds; bound : 0 < 10 ^ length ds }
-none [] e = record { value = refl; bound = omega arith }
-none (d ∷ ds) e = absurd (omega arith)
 
 -- the number of the digits after those that wrote n
 abbrev read_on : ℕ → List ℕ → ℕ

@@ -9,20 +9,13 @@ use Rattle.asks.specs.Rows.{before}
 use Rattle.asks.specs.declared.ask.Ask.{Ask}
 use Rattle.asks.specs.declared.ask.Ask.TheVariants.{Read, Write, Run, Hand, Tell}
 use Rattle.asks.specs.declared.ask.Malformed.{Malformed}
-
--- the size of the buffer that an ask wants
-abbrev pub buffer_size : Ask → ℕ
-buffer_size (Read seat sheet place size) = size
-buffer_size (Write seat sheet place bytes) = 0
-buffer_size (Run seat sheet place size) = size
-buffer_size (Hand seat sheet slip) = 0
-buffer_size (Tell seat) = 0
+use Rattle.asks.specs.declared.stretch.Stretch.{Stretch}
 
 -- the call that an ask stands for: its buffer is of zeros, its bytes are those that it borrows
 abbrev pub call : Ask → Call
-call (Read seat sheet place size) = read seat sheet place (replicate size 0)
+call (Read s) = read s.seat s.sheet s.place (replicate s.size 0)
 call (Write seat sheet place bytes) = write seat sheet place bytes.now
-call (Run seat sheet place size) = run seat sheet place (replicate size 0)
+call (Run s) = run s.seat s.sheet s.place (replicate s.size 0)
 call (Hand seat sheet slip) = hand seat sheet slip
 call (Tell seat) = tell seat
 
@@ -55,7 +48,11 @@ abbrev pub rest : List ℕ → List ℕ → Option (List ℕ)
 rest blank [] = Some blank
 rest blank (b ∷ text) = cond (b == 32) (Some text) None
 
--- seat, sheet, place and buffer size, up to the end of the line
+-- seat, sheet, place and buffer size
+abbrev pub parts : Stretch → ℕ × ℕ × ℕ × ℕ
+parts s = (s.seat, s.sheet, s.place, s.size)
+
+-- the same four, up to the end of the line
 abbrev pub stretch : List ℕ → Option (ℕ × ℕ × ℕ × ℕ)
 stretch text =
     field (2 ^ 16 - 1) text then λ seat t1.

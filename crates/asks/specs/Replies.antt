@@ -5,7 +5,7 @@ use Rattle.refusals.specs.Refusals.{number_of}
 use Rattle.model.specs.Calls as calls
 use Rattle.model.specs.Calls.{Call, Reply, read, write, run, hand, tell}
 use Rattle.asks.specs.declared.answer.Answer.{Answer}
-use Rattle.asks.specs.declared.answer.Answer.TheVariants.{Malformed, Refused, Done, Told, Opened}
+use Rattle.asks.specs.declared.answer.Answer.TheVariants.{Malformed, Refused, Done, Filled, Told, Opened}
 
 -- the bytes 32 to 126 as they are, others as a dot
 abbrev pub visible : ℕ → ℕ
@@ -28,14 +28,12 @@ answer_text c buffer (Ok numbers) = codes "ok" ++ (flat_map (λ n. codes " " ++ 
 abbrev pub text : Call → Reply → List ℕ
 text c reply = answer_text c reply.buffer reply.answer
 
--- the printed line of a filled buffer
-abbrev pub filled_text : List ℕ → List ℕ
-filled_text buffer = codes "ok " ++ map visible buffer
-
--- any other printed line, case by case
+-- a printed line, case by case; an opening's has the number of its refusal, 0 where it is accepted
 abbrev pub line_text : Answer → List ℕ
 line_text Malformed = codes "?"
 line_text (Refused refusal) = codes "no " ++ decimal (number_of refusal)
 line_text Done = codes "ok"
+line_text (Filled buffer) = codes "ok " ++ map visible buffer.now
 line_text (Told program slip) = codes "ok " ++ (decimal program ++ (codes " " ++ decimal slip))
-line_text (Opened number) = codes "open " ++ decimal number
+line_text (Opened (Ok u)) = codes "open 0"
+line_text (Opened (Err refusal)) = codes "open " ++ decimal (number_of refusal)

@@ -5,19 +5,18 @@ ghost use Rattle.asks.specs.Replies as replies;
 use refusals::refusal::Refusal;
 use std::fmt;
 
-// A printed line: for a malformed line of input, for an answered call, and for the opening, with its number.
+// A printed line: for a malformed line of input, for an answered call, and for the opening.
 #[derive(Clone, Copy, Debug)]
-pub enum Answer {
+pub enum Answer<'a> {
     Malformed,
     Refused(Refusal),
     Done,
+    // The buffer that a read or a run filled.
+    Filled(&'a [u8]),
+    // The running program and the slip.
     Told(u16, u64),
-    Opened(u8),
+    Opened(Result<(), Refusal>),
 }
-
-// The printed line for an accepted call that filled a buffer.
-#[derive(Clone, Copy)]
-pub struct Filled<'a>(pub &'a [u8]);
 
 // Bytes as they are printed: those that show no sign as a dot.
 #[derive(Clone, Copy)]
@@ -27,10 +26,9 @@ fn sign_of(b: u8) -> char
     ensures value { result ≡ replies.visible b }
     ensures bound { result < 128 }
 {
-    if b >= 32 && b <= 126 {
-        char::from(b)
-    } else {
-        '.'
+    match b {
+        b' '..=b'~' => char::from(b),
+        _ => '.',
     }
 }
 
@@ -45,28 +43,18 @@ impl fmt::Display for Visible<'_> {
     }
 }
 
-impl fmt::Display for Filled<'_> {
-    ghost output = { λ b. Some (replies.filled_text b.0.now) };
-
-    fn fmt<W: fmt::Write>(&self, f: &mut fmt::Formatter<W>) -> fmt::Result {
-        let bytes = Visible(self.0);
-        write!(f, "ok {bytes}")
-    }
-}
-
-impl fmt::Display for Answer {
+impl fmt::Display for Answer<'_> {
     ghost output = { λ a. Some (replies.line_text a) };
 
     fn fmt<W: fmt::Write>(&self, f: &mut fmt::Formatter<W>) -> fmt::Result {
         match self {
             Answer::Malformed => write!(f, "?"),
-            Answer::Refused(refusal) => {
-                let number = refusal.number();
-                write!(f, "no {number}")
-            }
+            Answer::Refused(refusal) => write!(f, "no {}", refusal.number()),
             Answer::Done => write!(f, "ok"),
+            Answer::Filled(buffer) => write!(f, "ok {}", Visible(buffer)),
             Answer::Told(program, slip) => write!(f, "ok {program} {slip}"),
-            Answer::Opened(number) => write!(f, "open {number}"),
+            Answer::Opened(Ok(())) => write!(f, "open 0"),
+            Answer::Opened(Err(refusal)) => write!(f, "open {}", refusal.number()),
         }
     }
 }

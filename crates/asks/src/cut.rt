@@ -7,10 +7,5 @@ pub fn len_before(text: &[u8], end: u8) -> usize
     ensures value { result ≡ before end text.now }
     ensures bound { result ≤ length text.now }
 {
-    for (i, b) in text.iter().enumerate() {
-        if *b == end {
-            return i;
-        }
-    }
-    text.len()
+    text.iter().position(|b| *b == end).unwrap_or(text.len())
 }

@@ -7,5 +7,6 @@ mod cut;
 mod fields;
 pub mod lines;
 mod number;
+pub mod stretch;
 
 pub use number::numbers_stand;

@@ -6,7 +6,7 @@ ghost use Rattle.asks.specs.Rows.{rows, split_line};
 use crate::cut::len_before;
 
 // The first line of a text, without the byte 10 that ends it, and what follows that byte.
-pub fn first_line<'a>(text: &'a [u8]) -> Option<(&'a [u8], &'a [u8])>
+pub fn first_line(text: &[u8]) -> Option<(&[u8], &[u8])>
     ensures value { option_map (λ x. (x.0.now, x.1.now)) result ≡ split_line text.now }
     ensures first { MatchOption result (rows text.now ≡ []) (λ x. rows text.now ≡ x.0.now ∷ rows x.1.now) }
     ensures shorter { IfSome result (λ x. length x.1.now < length text.now) }
@@ -14,9 +14,39 @@ pub fn first_line<'a>(text: &'a [u8]) -> Option<(&'a [u8], &'a [u8])>
     if text.is_empty() {
         return None;
     }
-    let end = len_before(text, b'\n');
-    if end == text.len() {
-        return Some((text, &text[end..]));
+    let (line, rest) = text.split_at(len_before(text, b'\n'));
+    Some((line, rest.get(1..).unwrap_or(rest)))
+}
+
+// The lines of a text, as an iterator.
+#[derive(Clone, Copy, Debug)]
+pub struct Lines<'a> {
+    rest: &'a [u8],
+}
+
+impl<'a> Lines<'a> {
+    ghost use Rattle.asks.specs.LinesLeft.{lines_left};
+
+    pub fn new(text: &'a [u8]) -> Self
+        ensures { lines_left result ≡ rows text.now }
+    {
+        Lines { rest: text }
     }
-    Some((&text[0..end], &text[end + 1..]))
+}
+
+impl<'a> Iterator for Lines<'a> {
+    type Item = &'a [u8];
+
+    ghost use Rattle.std.specs.Iterator.{YieldsFirstRef, item_count};
+    ghost use Rattle.asks.specs.LinesLeft.{lines_left};
+
+    ghost next_gives = { YieldsFirstRef lines_left };
+
+    ghost remaining = { item_count lines_left };
+
+    fn next(&mut self) -> Option<&'a [u8]> {
+        let (line, rest) = first_line(self.rest)?;
+        self.rest = rest;
+        Some(line)
+    }
 }

@@ -9,12 +9,7 @@ const MOST_DIGITS: usize = 9;
 fn all_digits(text: &[u8]) -> bool
     ensures { result ≡ all_ascii_digits text.now }
 {
-    for b in text {
-        if !b.is_ascii_digit() {
-            return false;
-        }
-    }
-    true
+    text.iter().all(|b| b.is_ascii_digit())
 }
 
 // The number of the digits: its front digits times ten plus its last.
@@ -39,7 +34,7 @@ pub fn number(text: &[u8], most: u64) -> Option<u64>
         return None;
     }
     let n = value(text);
-    if n <= most { Some(n) } else { None }
+    (n <= most).then_some(n)
 }
 
 // Holds of the numbers in a line: the digits of each below a thousand million are read back as that number, and a number is its front digits times ten plus its last.

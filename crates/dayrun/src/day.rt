@@ -3,43 +3,30 @@ ghost use Rattle.std.specs.Prelude.{◌≡◌, ◌++◌, IfOk, string_bytes, OnO
 ghost use Rattle.asks.specs.Replies.{line_text};
 ghost use Rattle.asks.specs.declared.answer.Answer.TheVariants.{Opened};
 ghost use Rattle.vault.specs.Meaning.{policy, state, opening_of, answer_of, Left};
-ghost use Rattle.dayrun.specs.Days.{ended, printed, opening_number, day_text};
+ghost use Rattle.dayrun.specs.Days.{ended, printed, day_text};
 
 use crate::answering;
 use asks::answer::Answer;
-use asks::lines::first_line;
+use asks::lines::Lines;
 use orders::order::Order;
-use refusals::refusal::Refusal;
-use std::alloc::Global;
-use std::fmt;
+use std::alloc::{AllocError, Global};
 use stores::store::Store;
 use vault::vault::Vault;
 
 // The most bytes of an input; what stands beyond is not read.
 pub const MOST_INPUT: u64 = 16_384;
 
-// The number of an opening's answer: 0 where it is accepted.
-fn number_of(said: Result<(), Refusal>) -> u8
-    ensures { result ≡ opening_number said }
-{
-    match said {
-        Ok(()) => 0,
-        Err(refusal) => refusal.number(),
-    }
-}
-
-// Opens the vault, and adds the opening's number.
+// Opens the vault, and adds the opening's answer.
 fn open<M: Order, G: Order, S: Store>(
     vault: &mut Vault<M, G, S>,
     out: &mut String,
     register: &[u8],
     floor: u64,
-) -> fmt::Result
-    ensures bytes { OnOk result (string_bytes out.new ≡ string_bytes out.old ++ ended (line_text (Opened (opening_number (answer_of (opening_of M.Order G.Order S.Store vault.old register.now floor)))))) }
+) -> Result<(), AllocError>
+    ensures bytes { OnOk result (string_bytes out.new ≡ string_bytes out.old ++ ended (line_text (Opened (answer_of (opening_of M.Order G.Order S.Store vault.old register.now floor))))) }
     ensures after { Left vault.old floor (opening_of M.Order G.Order S.Store vault.old register.now floor) vault.new }
 {
-    let number = number_of(vault.open(register, floor));
-    answering::print(out, Answer::Opened(number))
+    answering::print(out, Answer::Opened(vault.open(register, floor)))
 }
 
 // Answers each line of the input, and adds what is printed for it.
@@ -47,28 +34,26 @@ fn answer_all<M: Order, G: Order, S: Store>(
     vault: &mut Vault<M, G, S>,
     out: &mut String,
     input: &[u8],
-) -> fmt::Result
+) -> Result<(), AllocError>
     ensures { OnOk result (string_bytes out.new ≡ string_bytes out.old ++ printed (policy M.Order G.Order vault.old) (state S.Store vault.old) input.now) }
 {
-    let mut rest = input;
-    while let Some((line, after)) = first_line(rest) {
+    for line in Lines::new(input) {
         answering::answer_line(vault, out, line)?;
-        rest = after;
     }
     Ok(())
 }
 
 // The text of a day: the opening's number, and then one line for each line of the input. Only want of memory fails.
 pub fn text<M: Order + Drop, G: Order + Drop, S: Store + Drop>(
-    heap: Global,
+    alloc: Global,
     mut vault: Vault<M, G, S>,
     register: &[u8],
     floor: u64,
     input: &[u8],
-) -> Result<String, fmt::Error>
+) -> Result<String, AllocError>
     ensures { IfOk result (λ out. string_bytes out ≡ day_text M.Order G.Order S.Store vault register.now floor input.now) }
 {
-    let mut out = String::new(heap);
+    let mut out = String::new(alloc);
     open(&mut vault, &mut out, register, floor)?;
     answer_all(&mut vault, &mut out, input)?;
     Ok(out)

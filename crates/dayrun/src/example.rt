@@ -8,14 +8,16 @@
 //   4      4     0     6      0/0, 3/3
 //
 // Seat 0 starts with program 2, seat 1 with program 4. The floor is 5, and the store a slab of zeros.
-ghost use Rattle.std.specs.Prelude.{◌≡◌, IfOk, string_bytes};
-ghost use Rattle.dayrun.specs.Example.{register as example_register, example_text};
+ghost use Rattle.std.specs.Prelude.{◌≡◌, IfOk, IsTrue, string_bytes};
+ghost use Rattle.model.specs.Opening.{same_sizes};
+ghost use Rattle.dayrun.specs.Example.{register as example_register, book, text_from, example_text};
 
 use crate::day;
 use orders::compartments::Compartments;
 use orders::ladder::Ladder;
-use std::alloc::Global;
+use std::alloc::{AllocError, Global};
 use stores::slab::Slab;
+use stores::store::Store;
 use vault::vault::Vault;
 
 // How many grades there are.
@@ -53,11 +55,23 @@ pub fn register() -> &'static [u8]
     REGISTER
 }
 
+// The text of a day at the example vault over this store, whatever bytes its sheets have. Of a store that has other
+// sheets than the register nothing is said. Only want of memory fails.
+pub fn text_over<S: Store + Drop>(
+    alloc: Global,
+    store: S,
+    input: &[u8],
+) -> Result<String, AllocError>
+    ensures { IsTrue (same_sizes (S.sheets store) book.entries) → IfOk result (λ out. string_bytes out ≡ text_from (S.sheets store) input.now) }
+{
+    let vault = Vault::new(Compartments, Ladder::new(RUNGS), store);
+    day::text(alloc, vault, register(), FLOOR, input)
+}
+
 // The text of a day at the example vault. Only want of memory fails.
-pub fn text(heap: Global, input: &[u8]) -> anyhow::Result<String>
+pub fn text(alloc: Global, input: &[u8]) -> Result<String, AllocError>
     ensures { IfOk result (λ out. string_bytes out ≡ example_text input.now) }
 {
-    let memory = vec![in heap; 0; MEMORY]?;
-    let vault = Vault::new(Compartments, Ladder::new(RUNGS), Slab::new(&SIZES, memory));
-    Ok(day::text(heap, vault, register(), FLOOR, input)?)
+    let memory = vec![in alloc; 0; MEMORY]?;
+    text_over(alloc, Slab::new(&SIZES, memory), input)
 }

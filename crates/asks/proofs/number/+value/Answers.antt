@@ -1,5 +1,5 @@
-use Rattle.std.proofs.Common.{◌≡◌, ◌<◌, length, arith, rules}
-use Rattle.asks.proofs.Digits.{parted, none}
+use Rattle.std.proofs.Common.{◌<◌, length, arith, rules}
+use Rattle.asks.proofs.Digits.{parted}
 use Rattle.asks.proofs.number.+value.Goals as goal
 
 pub value-requires : goal.value-requires
@@ -12,11 +12,6 @@ pub overflow_sub-last-in-len1-up : goal.overflow_sub-last-in-len1-up
 overflow_sub-last-in-len1-up t c =
     let some : 0 < length c.args.digits.now = search rules in
     (parted c.args.digits.now some c.requires.digits).low
-
-pub returns-in-empty : goal.returns-in-empty
-returns-in-empty t c =
-    let e : length c.args.digits.now ≡ 0 = search rules in
-    none c.args.digits.now e
 
 pub returns-in-len1-up : goal.returns-in-len1-up
 returns-in-len1-up t c =

@@ -1,0 +1,41 @@
+// What a read and a run name: a stretch of a sheet.
+ghost use Rattle.std.specs.Prelude.{◌≤◌};
+
+use crate::ask::{MOST_NUMBER, MOST_PLACE, Malformed};
+use crate::fields::{field, last_field};
+
+// The largest buffer of a read or a run.
+pub const MOST_SIZE: usize = 64;
+
+// The bytes of a sheet that fill a buffer, the seat that asks for them, and the buffer's size.
+#[derive(Clone, Copy, Debug)]
+pub struct Stretch {
+    pub seat: u16,
+    pub sheet: u16,
+    pub place: u32,
+    pub size: u8,
+    ghost few: { size ≤ 64 },
+}
+
+impl Stretch {
+    ghost use Rattle.std.specs.Prelude.{◌≡◌};
+    ghost use Rattle.std.specs.Option.{option_map};
+    ghost use Rattle.std.specs.Result.{result_ok};
+    ghost use Rattle.asks.specs.Lines as lines;
+
+    // Seat, sheet, place and buffer size, up to the end of the line.
+    pub(crate) fn parse(text: &[u8]) -> Result<Stretch, Malformed>
+        ensures { option_map lines.parts (result_ok result) ≡ lines.stretch text.now }
+    {
+        let (seat, text) = field(text, MOST_NUMBER)?;
+        let (sheet, text) = field(text, MOST_NUMBER)?;
+        let (place, text) = field(text, MOST_PLACE)?;
+        let size = last_field(text, MOST_SIZE as u64)?;
+        Ok(Stretch {
+            seat: seat as u16,
+            sheet: sheet as u16,
+            place: place as u32,
+            size: size as u8,
+        })
+    }
+}
