@@ -9,6 +9,7 @@ use crate::cut::len_before;
 use crate::number::number;
 
 // The number after one space, where it is at most `most`, and what follows it.
+// Over the number's type it would be no plainer: a trait, and an impl for each of four types, in place of four limits.
 pub fn field(text: &[u8], most: u64) -> Result<(u64, &[u8]), Malformed>
     ensures value { option_map (λ x. (x.0, x.1.now)) (result_ok result) ≡ lines.field most text.now }
     ensures bound { IfOk result (λ x. x.0 ≤ most) }

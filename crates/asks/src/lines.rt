@@ -15,7 +15,8 @@ pub fn first_line(text: &[u8]) -> Option<(&[u8], &[u8])>
         return None;
     }
     let (line, rest) = text.split_at(len_before(text, b'\n'));
-    Some((line, rest.get(1..).unwrap_or(rest)))
+    let after = rest.get(1..).unwrap_or(rest);
+    Some((line, after))
 }
 
 // The lines of a text, as an iterator.

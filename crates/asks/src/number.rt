@@ -27,8 +27,7 @@ fn value(digits: &[u8]) -> u64
 
 // The number of a text that is one to nine digits, where it is at most `most`.
 pub fn number(text: &[u8], most: u64) -> Option<u64>
-    ensures value { result ≡ numbers.numeral most text.now }
-    ensures bound { IfSome result (λ n. n ≤ most) }
+    ensures { result ≡ numbers.numeral most text.now }
 {
     if text.is_empty() || text.len() > MOST_DIGITS || !all_digits(text) {
         return None;

@@ -75,6 +75,7 @@ pub fn answer_line<M: Order, G: Order, S: Store>(
     ensures after { state S.Store vault.new ≡ ask_after (policy M.Order G.Order vault.old) (state S.Store vault.old) (parsed line.now) }
     ensures kept { Kept vault.old vault.new }
 {
+    // A call takes no memory from the heap: it is lent as much of the largest buffer as it asks for.
     let mut buffer = [0; MOST_SIZE];
     match parse(line) {
         Ok(ask) => match ask_vault(vault, ask, &mut buffer) {

@@ -12,9 +12,9 @@ pub returns-in_err-n-clause-value : goal.returns-in_err-n-clause-value
 returns-in_err-n-clause-value c =
     let begun = MatchOption-at_some _ _ _ c.in_ok-text.ensures.ok_part c.strip_prefix.ensures.cases in
     no_value _ c.from_residual-in_err-n.result c.from_residual-in_err-n.ensures.0
-    ∙ field_space c.args.most c.args.text.now _ _ _ _ _ begun.0 begun.1 c.len_before.ensures.value c.split_at.ensures.front c.split_at.ensures.back (sym c.in_err-n.ensures.ok_part ∙ c.number.ensures.value)
+    ∙ field_space c.args.most c.args.text.now _ _ _ _ _ begun.0 begun.1 c.len_before.ensures.value c.split_at.ensures.front c.split_at.ensures.back (sym c.in_err-n.ensures.ok_part ∙ c.number.ensures)
 
 pub returns-clause-value : goal.returns-clause-value
 returns-clause-value c =
     let begun = MatchOption-at_some _ _ _ c.in_ok-text.ensures.ok_part c.strip_prefix.ensures.cases in
-    field_space c.args.most c.args.text.now _ _ _ _ _ begun.0 begun.1 c.len_before.ensures.value c.split_at.ensures.front c.split_at.ensures.back (sym c.in_ok-n.ensures.ok_part ∙ c.number.ensures.value)
+    field_space c.args.most c.args.text.now _ _ _ _ _ begun.0 begun.1 c.len_before.ensures.value c.split_at.ensures.front c.split_at.ensures.back (sym c.in_ok-n.ensures.ok_part ∙ c.number.ensures)
