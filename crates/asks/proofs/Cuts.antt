@@ -1,11 +1,10 @@
 -- A text that is cut before the first byte of a kind.
-use Rattle.std.proofs.Common.{◌≡◌, ℕ, not, eqb, List, ◌∷◌, length, take, drop, None, Option, sym, refl, [], Ok, Err, Result, true, false, arith, rules}
+use Rattle.std.proofs.Common.{◌≡◌, ℕ, not, eqb, List, ◌∷◌, length, take, drop, None, Option, sym, refl, ap, [], true, false, arith, rules}
 use lib.Pointwise.{pointwise}
 use Rattle.std.proofs.lemmas.List.Sums.{prefix_len-le-length}
 use Rattle.std.proofs.lemmas.Bool.{cond-true, cond-false}
 use Rattle.std.specs.Option.{option_map, unwrap_or}
 use Rattle.std.specs.List.{position}
-use Rattle.std.specs.Result.{IsErr, result_ok}
 use Rattle.std.proofs.lemmas.Bool.Decides.{nat_tests}
 use Rattle.asks.specs.Lines.{field}
 use Rattle.asks.specs.Numbers.{numeral}
@@ -29,7 +28,6 @@ field_space most (b ∷ text) after word more end o h e at w m is =
     let space : eqb b 32 ≡ true = search (rules, h) in
     rw (is, w, m, at, e) (sym (cond-true (eqb b 32) _ None space))
 
--- what fails gives no value
-pub no_value : {A B E : Type 0} (f : A → B) (r : Result A E) → IsErr r → option_map f (result_ok r) ≡ None
-no_value f (Ok x) h = cc
-no_value f (Err e) h = refl
+-- what is not there has no parts
+pub no_value : {A B : Type 0} (f : A → B) (o : Option A) → o ≡ None → option_map f o ≡ None
+no_value f o h = ap (option_map f) h

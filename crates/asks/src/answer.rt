@@ -49,12 +49,12 @@ impl fmt::Display for Answer<'_> {
     fn fmt<W: fmt::Write>(&self, f: &mut fmt::Formatter<W>) -> fmt::Result {
         match self {
             Answer::Malformed => write!(f, "?"),
-            Answer::Refused(refusal) => write!(f, "no {}", refusal.number()),
+            Answer::Refused(refusal) => write!(f, "no {refusal}"),
             Answer::Done => write!(f, "ok"),
             Answer::Filled(buffer) => write!(f, "ok {}", Visible(buffer)),
             Answer::Told(program, slip) => write!(f, "ok {program} {slip}"),
             Answer::Opened(Ok(())) => write!(f, "open 0"),
-            Answer::Opened(Err(refusal)) => write!(f, "open {}", refusal.number()),
+            Answer::Opened(Err(refusal)) => write!(f, "open {refusal}"),
         }
     }
 }

@@ -43,14 +43,22 @@ const MOST_SLIP: u64 = u64::MAX;
 
 const BLANK: &[u8] = b"----";
 
-// Seat, sheet and place of a write, and its bytes.
+// Seat, sheet and place of a write, and its bytes. Here and below, a rule of the project names the form: each field, or else the one fault.
 fn write(text: &[u8]) -> Result<Ask<'_>, Malformed>
     ensures { lines.asked result ≡ lines.writing text.now }
 {
-    let (seat, text) = field(text, MOST_NUMBER)?;
-    let (sheet, text) = field(text, MOST_NUMBER)?;
-    let (place, text) = field(text, MOST_PLACE)?;
-    let bytes = rest_or(text, BLANK)?;
+    let Some((seat, text)) = field(text, MOST_NUMBER) else {
+        return Err(Malformed);
+    };
+    let Some((sheet, text)) = field(text, MOST_NUMBER) else {
+        return Err(Malformed);
+    };
+    let Some((place, text)) = field(text, MOST_PLACE) else {
+        return Err(Malformed);
+    };
+    let Some(bytes) = rest_or(text, BLANK) else {
+        return Err(Malformed);
+    };
     Ok(Ask::Write {
         seat: seat as u16,
         sheet: sheet as u16,
@@ -63,9 +71,15 @@ fn write(text: &[u8]) -> Result<Ask<'_>, Malformed>
 fn hand(text: &[u8]) -> Result<Ask<'_>, Malformed>
     ensures { lines.asked result ≡ lines.handing text.now }
 {
-    let (seat, text) = field(text, MOST_NUMBER)?;
-    let (sheet, text) = field(text, MOST_NUMBER)?;
-    let slip = last_field(text, MOST_SLIP)?;
+    let Some((seat, text)) = field(text, MOST_NUMBER) else {
+        return Err(Malformed);
+    };
+    let Some((sheet, text)) = field(text, MOST_NUMBER) else {
+        return Err(Malformed);
+    };
+    let Some(slip) = last_field(text, MOST_SLIP) else {
+        return Err(Malformed);
+    };
     Ok(Ask::Hand {
         seat: seat as u16,
         sheet: sheet as u16,
@@ -77,7 +91,9 @@ fn hand(text: &[u8]) -> Result<Ask<'_>, Malformed>
 fn tell(text: &[u8]) -> Result<Ask<'_>, Malformed>
     ensures { lines.asked result ≡ lines.telling text.now }
 {
-    let seat = last_field(text, MOST_NUMBER)?;
+    let Some(seat) = last_field(text, MOST_NUMBER) else {
+        return Err(Malformed);
+    };
     Ok(Ask::Tell { seat: seat as u16 })
 }
 
@@ -88,13 +104,15 @@ pub fn parse(line: &[u8]) -> Result<Ask<'_>, Malformed>
     if line.len() > MOST_BYTES {
         return Err(Malformed);
     }
-    let (letter, text) = line.split_first().ok_or(Malformed)?;
-    match *letter {
-        b'r' => Ok(Ask::Read(Stretch::parse(text)?)),
-        b'w' => write(text),
-        b'x' => Ok(Ask::Run(Stretch::parse(text)?)),
-        b'h' => hand(text),
-        b't' => tell(text),
+    let Some((letter, text)) = line.split_first() else {
+        return Err(Malformed);
+    };
+    match char::from(*letter) {
+        'r' => Ok(Ask::Read(Stretch::parse(text)?)),
+        'w' => write(text),
+        'x' => Ok(Ask::Run(Stretch::parse(text)?)),
+        'h' => hand(text),
+        't' => tell(text),
         _ => Err(Malformed),
     }
 }

@@ -23,14 +23,22 @@ impl Stretch {
     ghost use Rattle.std.specs.Result.{result_ok};
     ghost use Rattle.asks.specs.Lines as lines;
 
-    // Seat, sheet, place and buffer size, up to the end of the line.
+    // Seat, sheet, place and buffer size, up to the end of the line. A rule of the project names the form: each field, or else the one fault.
     pub(crate) fn parse(text: &[u8]) -> Result<Stretch, Malformed>
         ensures { option_map lines.parts (result_ok result) ≡ lines.stretch text.now }
     {
-        let (seat, text) = field(text, MOST_NUMBER)?;
-        let (sheet, text) = field(text, MOST_NUMBER)?;
-        let (place, text) = field(text, MOST_PLACE)?;
-        let size = last_field(text, MOST_SIZE as u64)?;
+        let Some((seat, text)) = field(text, MOST_NUMBER) else {
+            return Err(Malformed);
+        };
+        let Some((sheet, text)) = field(text, MOST_NUMBER) else {
+            return Err(Malformed);
+        };
+        let Some((place, text)) = field(text, MOST_PLACE) else {
+            return Err(Malformed);
+        };
+        let Some(size) = last_field(text, MOST_SIZE as u64) else {
+            return Err(Malformed);
+        };
         Ok(Stretch {
             seat: seat as u16,
             sheet: sheet as u16,

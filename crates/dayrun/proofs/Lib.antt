@@ -1,1 +1,2 @@
 pub mod Exampled
+pub mod Leaving
