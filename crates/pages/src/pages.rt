@@ -27,6 +27,8 @@ struct ListedPages {
     ghost whole: { all_inside list.items (vec_len memory) ≡ true },
 }
 
+// One generic type with the slab is no plainer: it wants a trait for what holds the bytes, with a law of what a write leaves
+// beside them, and shares four calls of a line or two; what both have in common is `Spans`.
 #[derive(Drop)]
 pub struct Pages {
     listed: ListedPages,

@@ -52,8 +52,8 @@ module _ {u : ℕ} (s : Spans u) where
     taken_more = sym (ap (sum_by (room u)) sizes_more ∙ sum_by_push (room u) (sizes_of s) z ∙ ap (λ n. n + room u z) (sym s.taken))
 
     -- what they take fits a number of 32 bits
-    pub end_bound : u < 2 ^ 16 → length (sizes_of s) < 64 → s.end ≤ 69631 * 63
+    pub end_bound : u < 2 ^ 16 → length (sizes_of s) < 64 → s.end ≤ 63 * 69631
     end_bound narrow few =
         let sum = small_sum (room u) (u - 1) (room_short u) (sizes_of s) s.limit in
-        let all = mul-le (4096 + (u - 1)) (length (sizes_of s)) 69631 63 (omega arith) (omega arith) in
+        let all = mul-le (length (sizes_of s)) (4096 + (u - 1)) 63 69631 (omega arith) (omega arith) in
         omega (arith, s.taken)

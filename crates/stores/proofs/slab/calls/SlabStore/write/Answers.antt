@@ -4,12 +4,6 @@ use Rattle.stores.proofs.Slabbing.{slab_start}
 use Rattle.stores.proofs.Splicing.{put_in}
 use Rattle.stores.proofs.slab.calls.SlabStore.write.Goals as goal
 
-pub returns-clause-after : goal.returns-clause-after
-returns-clause-after c =
-    let s = c.args.self.now in
-    let e = put_in s.memory c.deref_mut.result.now c.deref_mut.ensures.value c.in_ok-at.at _ c.copy_from_slice.new.self c.args.bytes.now c.copy_from_slice.ensures.after refl (omega (arith, c.in_ok-at.ensures.within, s.memory.ok.0)) in
-    rw e (search rules)
-
 pub returns-clause-memory : goal.returns-clause-memory
 returns-clause-memory c =
     let s = c.args.self.now in
