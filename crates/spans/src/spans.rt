@@ -1,12 +1,8 @@
 // Where the sheets of a store stand in a memory that is cut into units of `UNIT` bytes: one after the other, in number
 // order, each from the start of a unit on. A page store's unit is one page; a slab's is one byte, so its sheets stand end to end.
-ghost use Rattle.std.specs.Prelude.{◌≡◌, true, sum_by};
-ghost use Rattle.spans.specs.Limits.{small};
-ghost use Rattle.spans.specs.Rooms.{room};
-ghost use Rattle.spans.specs.Spans.{placed, sizes_in};
-
 use self::span::Span;
 use arrayvec::ArrayVec;
+use std::marker::Model;
 
 mod calls;
 mod making;
@@ -23,7 +19,17 @@ pub struct Spans<const UNIT: u16> {
     rows: ArrayVec<Span, MOST_SHEETS>,
     // How many bytes of the memory they take.
     end: u32,
-    ghost limit: { small (sizes_in rows.items) ≡ true },
-    ghost packed: { placed (room UNIT) 0 rows.items ≡ true },
-    ghost taken: { end ≡ sum_by (room UNIT) (sizes_in rows.items) },
+}
+
+// Clauses see the sizes of the sheets, in number order.
+impl<const UNIT: u16> Model for Spans<UNIT> {
+    ghost use Rattle.std.specs.Prelude.{List, ℕ};
+
+    ghost Value = { List ℕ };
+
+    ghost use Rattle.spans.specs.Spans.{IsTable, sizes_in};
+
+    ghost view = { λ s. sizes_in s.rows.items };
+
+    ghost invariant = { λ s. IsTable UNIT s.rows.items s.end };
 }

@@ -1,6 +1,5 @@
 // A slab: its sheets stand end to end, in number order, in one memory that it owns.
 ghost use Rattle.std.specs.Prelude.{◌≡◌, true, vec_len, sum, nat_le};
-ghost use Rattle.spans.specs.Sizes.{sizes_of};
 
 use spans::spans::Spans;
 
@@ -11,5 +10,5 @@ mod making;
 pub struct Slab {
     memory: Vec<u8>,
     sheets: Spans<1>,
-    ghost inside: { nat_le (sum (sizes_of sheets)) (vec_len memory) ≡ true },
+    ghost inside: { nat_le (sum sheets) (vec_len memory) ≡ true },
 }

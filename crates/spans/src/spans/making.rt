@@ -1,8 +1,7 @@
 // The spans of sheets of given sizes.
 ghost use Rattle.std.specs.Prelude.{◌≡◌, ◌<◌, ◌≤◌, [], ◌∷◌, ◌++◌, length};
-ghost use Rattle.std.specs.Result.{result_map_both};
 ghost use Rattle.spans.specs.Limits.{within_limits};
-ghost use Rattle.spans.specs.Sizes.{limited, sizes_of};
+ghost use Rattle.spans.specs.Sizes.{limited};
 
 use crate::spans::span::Span;
 use crate::spans::{MOST_BYTES, MOST_SHEETS, Spans};
@@ -19,7 +18,7 @@ fn within(sizes: &[u32]) -> bool
 impl<const UNIT: u16> Spans<UNIT> {
     // No sheets.
     pub fn none() -> Spans<UNIT>
-        ensures { sizes_of result ≡ [] }
+        ensures { result ≡ [] }
     {
         Spans {
             rows: ArrayVec::new(),
@@ -30,9 +29,9 @@ impl<const UNIT: u16> Spans<UNIT> {
     // One sheet more, after the others.
     fn push(&mut self, size: u32)
         requires unit { 0 < UNIT }
-        requires few { length (sizes_of self.old) < 64 }
+        requires few { length self.old < 64 }
         requires size { size ≤ 4096 }
-        ensures { sizes_of self.new ≡ sizes_of self.old ++ size ∷ [] }
+        ensures { self.new ≡ self.old ++ size ∷ [] }
     {
         let room = size.next_multiple_of(u32::from(UNIT));
         self.rows.push(Span {
@@ -44,7 +43,7 @@ impl<const UNIT: u16> Spans<UNIT> {
 
     // Sheets of these sizes; refused where a limit of a store is passed, and where a unit would have no bytes.
     pub fn new(sizes: &[u32]) -> Result<Spans<UNIT>, Refusal>
-        ensures { result_map_both sizes_of (λ e. e) result ≡ limited UNIT sizes.now }
+        ensures { result ≡ limited UNIT sizes.now }
     {
         if UNIT == 0 || !within(sizes) {
             return Err(Refusal::StoreLimit);

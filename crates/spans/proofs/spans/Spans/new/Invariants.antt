@@ -1,6 +1,5 @@
 use Rattle.std.proofs.Common.{◌≡◌, take}
-use Rattle.spans.specs.Sizes.{sizes_of}
 use Rattle.spans.proofs.spans.Spans.new.Given as goal
 
 abbrev pub invariant-loop-size : goal.invariant-loop-size
-invariant-loop-size g l = sizes_of l.spans ≡ take l.size-index l.sizes
+invariant-loop-size g l = l.spans ≡ take l.size-index l.sizes
