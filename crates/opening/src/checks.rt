@@ -21,14 +21,14 @@ fn is_classed<M: Order, G: Order>(orders: &Orders<M, G>, label: Label) -> bool
     orders.marks.is_class(label.mark) && orders.grades.is_class(label.grade)
 }
 
-// Whether the label of each sheet is.
+// Whether the label of each sheet has classes.
 fn are_entries_classed<M: Order, G: Order>(orders: &Orders<M, G>, entries: &[Entry]) -> bool
     ensures { result ≡ list_all (entry_classed (order M.Order orders.now.marks) (order G.Order orders.now.grades)) entries.now }
 {
     entries.iter().all(|e| is_classed(orders, e.label))
 }
 
-// Whether each certificate passes a test.
+// Whether each certificate passes a test. A rule of the project names a `for` here.
 fn all_pass<F: Fn(Certificate) -> bool>(certificates: &[Certificate], test: F) -> bool
     requires { F.IsAlwaysCallable test }
     ensures { (passes : Certificate → Bool) → ((c : Certificate) (b : Bool) → F.post test c b → b ≡ passes c) → result ≡ list_all passes certificates.now }
@@ -41,7 +41,7 @@ fn all_pass<F: Fn(Certificate) -> bool>(certificates: &[Certificate], test: F) -
     true
 }
 
-// Whether both labels of each certificate are.
+// Whether both labels of each certificate have.
 fn are_certificates_classed<M: Order, G: Order>(
     orders: &Orders<M, G>,
     certificates: &[Certificate],

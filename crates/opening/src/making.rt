@@ -14,6 +14,7 @@ pub fn sheets_of(register: &Register) -> ArrayVec<Sheet, MOST_SHEETS>
     ensures { result.items ≡ first_sheets (book_of register.now) }
 {
     let mut sheets = ArrayVec::new();
+    // `as`, since `try_from` has an error that could not come: there are at most 64 entries.
     for (k, e) in register.entries().iter().enumerate() {
         sheets.push(Sheet {
             label: e.label,
