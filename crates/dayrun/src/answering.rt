@@ -49,6 +49,7 @@ fn ask_vault<'a, M: Order, G: Order, S: Store>(
             vault.write(seat, sheet, place, bytes)?;
             Ok(Answer::Done)
         }
+        // As at a read but for the call: a closure that makes it would be no plainer.
         Ask::Run(stretch) => {
             let part = &mut buffer[..usize::from(stretch.size)];
             vault.run(stretch.seat, stretch.sheet, stretch.place, part)?;

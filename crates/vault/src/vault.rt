@@ -19,6 +19,7 @@ use register::certificate::Certificate;
 use stores::store::Store;
 
 // A vault over an order of marks, an order of grades and a store. Calls change the store and the opening's seats alone.
+// It has no Model: clauses name its policy, its state and the store itself, and one value of all three would be no plainer.
 #[derive(Drop)]
 pub struct Vault<M, G, S> {
     orders: Orders<M, G>,

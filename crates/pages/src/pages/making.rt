@@ -59,6 +59,7 @@ impl Pages {
         ensures list { page_list result ≡ made_list sizes.now list.items memory.items }
         ensures memory { page_memory result ≡ memory.items }
     {
+        // No plainer as a `match`: where the check refuses, the list is cleared first.
         let Ok(sheets) = fit(sizes, list.as_slice(), memory.len()) else {
             list.clear();
             return Pages {
