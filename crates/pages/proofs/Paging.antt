@@ -15,6 +15,7 @@ use Rattle.spans.specs.Bounds.{bound_tests}
 use Rattle.spans.specs.Sizes.{limited}
 use Rattle.stores.proofs.Cutting.{size_cut}
 use Rattle.spans.proofs.Limiting.{limited_ok}
+use Rattle.spans.proofs.Rooms.{room_wide}
 use Rattle.stores.proofs.Reaching.{answered}
 use Rattle.pages.specs.PageStores.{bytes_of, fitted, listed_bytes, made_list, made_sheets, page_check, page_sheets, page_sizes, page_tests}
 use Rattle.pages.specs.Paging.{all_inside, gathered, needed, none_twice}
@@ -23,7 +24,7 @@ use Rattle.pages.specs.declared.pages.Pages.{Pages}
 use Rattle.pages.proofs.Gathering.{length_gathered}
 
 wide : (z : ℕ) → z ≤ room 16 z
-wide z = omega arith
+wide z = room_wide 16 z (omega arith)
 
 -- what sheets take is what their pages have
 pub pages_sum : (zs : List ℕ) → sum_by (room 16) zs ≡ 16 * needed zs

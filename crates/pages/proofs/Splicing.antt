@@ -1,11 +1,8 @@
 -- One write after another, a write into one of two lists that stand end to end, and a write as a part of a list sees it.
-use Rattle.std.proofs.Common.{◌≡◌, ℕ, ◌+◌, ◌≤◌, List, [], ◌++◌, length, take, drop, sym, ap, ◌∙◌, append_assoc, arith, length-append, length-drop, rules}
+use Rattle.std.proofs.Common.{◌≡◌, ℕ, ◌+◌, ◌≤◌, List, ◌++◌, length, take, drop, sym, ap, ◌∙◌, append_assoc, arith, length-append, length-drop, rules}
 use Rattle.std.proofs.lemmas.List.{drop_at, drop-drop, drop-take, length-take-le, places, same_lists, take-append-drop, take_at, take-take}
 use Rattle.stores.specs.Splices.{spliced}
 use Rattle.stores.proofs.Splicing.{drop_splice_in, drop_splice_past, take_splice_in, take_splice_past}
-
-pub splice_none : (xs : List ℕ) (at : ℕ) → spliced xs at [] ≡ xs
-splice_none xs at = take-append-drop at xs
 
 -- two stretches, one after the other
 pub take_both : (xs : List ℕ) (i n : ℕ) → take i xs ++ take n (drop i xs) ≡ take (i + n) xs
