@@ -1,7 +1,5 @@
 // A line of the day run, read as one call of a seat.
 ghost use Rattle.std.specs.Prelude.{◌≡◌};
-ghost use Rattle.std.specs.Option.{option_map};
-ghost use Rattle.std.specs.Result.{result_ok};
 ghost use Rattle.asks.specs.Lines as lines;
 
 use crate::fields::{field, last_field, rest_or};
@@ -34,7 +32,7 @@ pub struct Malformed;
 
 const MOST_BYTES: usize = 200;
 
-// The highest number of a seat or a sheet.
+// The highest number of a seat or a sheet. A constant takes no call, so it is cast.
 pub(crate) const MOST_NUMBER: u64 = u16::MAX as u64;
 
 pub(crate) const MOST_PLACE: u64 = u32::MAX as u64;
@@ -43,7 +41,8 @@ const MOST_SLIP: u64 = u64::MAX;
 
 const BLANK: &[u8] = b"----";
 
-// Seat, sheet and place of a write, and its bytes. Here and below, a rule of the project names the form: each field, or else the one fault.
+// Seat, sheet and place of a write, and its bytes. Here and below, a rule of the project wants each field by a `let .. else`, and
+// in every `else` the one fault (docs/DECISIONS.md, Named forms).
 fn write(text: &[u8]) -> Result<Ask<'_>, Malformed>
     ensures { lines.asked result ≡ lines.writing text.now }
 {
@@ -59,6 +58,7 @@ fn write(text: &[u8]) -> Result<Ask<'_>, Malformed>
     let Some(bytes) = rest_or(text, BLANK) else {
         return Err(Malformed);
     };
+    // Here and below a cast keeps its number, which the field tested against a limit.
     Ok(Ask::Write {
         seat: seat as u16,
         sheet: sheet as u16,

@@ -7,7 +7,7 @@ use crate::cut::len_before;
 use crate::number::number;
 
 // The number after one space, where it is at most `most`, and what follows it.
-// Over the number's type it would be no plainer: a trait, and an impl for each of four types, in place of four limits.
+// No plainer by the library's `TryFrom<u64>`: each clause would name the bound's ghost member and its range in place of a limit.
 pub fn field(text: &[u8], most: u64) -> Option<(u64, &[u8])>
     ensures value { option_map (λ x. (x.0, x.1.now)) result ≡ lines.field most text.now }
     ensures bound { IfSome result (λ x. x.0 ≤ most) }

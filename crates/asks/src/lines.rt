@@ -28,6 +28,7 @@ pub struct Lines<'a> {
 impl<'a> Lines<'a> {
     ghost use Rattle.asks.specs.LinesLeft.{lines_left};
 
+    // All lines of a text.
     pub fn new(text: &'a [u8]) -> Self
         ensures { lines_left result ≡ rows text.now }
     {

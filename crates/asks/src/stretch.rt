@@ -14,7 +14,7 @@ pub struct Stretch {
     pub sheet: u16,
     pub place: u32,
     pub size: u8,
-    ghost few: { size ≤ 64 },
+    ghost fits: { size ≤ 64 },
 }
 
 impl Stretch {
@@ -23,7 +23,8 @@ impl Stretch {
     ghost use Rattle.std.specs.Result.{result_ok};
     ghost use Rattle.asks.specs.Lines as lines;
 
-    // Seat, sheet, place and buffer size, up to the end of the line. A rule of the project names the form: each field, or else the one fault.
+    // Seat, sheet, place and buffer size, up to the end of the line. A rule of the project wants each field by a `let .. else`, and in
+    // every `else` the one fault (docs/DECISIONS.md, Named forms).
     pub(crate) fn parse(text: &[u8]) -> Result<Stretch, Malformed>
         ensures { option_map lines.parts (result_ok result) ≡ lines.stretch text.now }
     {
@@ -39,6 +40,7 @@ impl Stretch {
         let Some(size) = last_field(text, MOST_SIZE as u64) else {
             return Err(Malformed);
         };
+        // A cast keeps its number, which the field tested against a limit.
         Ok(Stretch {
             seat: seat as u16,
             sheet: sheet as u16,

@@ -49,7 +49,7 @@ fn ask_vault<'a, M: Order, G: Order, S: Store>(
             vault.write(seat, sheet, place, bytes)?;
             Ok(Answer::Done)
         }
-        // As at a read but for the call: a closure that makes it would be no plainer.
+        // As for a read but for the call; a closure for the call would be no plainer.
         Ask::Run(stretch) => {
             let part = &mut buffer[..usize::from(stretch.size)];
             vault.run(stretch.seat, stretch.sheet, stretch.place, part)?;
@@ -66,7 +66,8 @@ fn ask_vault<'a, M: Order, G: Order, S: Store>(
     }
 }
 
-// Answers one line, and adds what is printed for it.
+// Answers one line, and adds what is printed for it. The vault and the text stand apart in the clauses, so one value of both would be
+// no plainer.
 pub fn answer_line<M: Order, G: Order, S: Store>(
     vault: &mut Vault<M, G, S>,
     out: &mut String,
@@ -76,7 +77,7 @@ pub fn answer_line<M: Order, G: Order, S: Store>(
     ensures after { state S.Store vault.new ≡ ask_after (policy M.Order G.Order vault.old) (state S.Store vault.old) (parsed line.now) }
     ensures kept { Kept vault.old vault.new }
 {
-    // A call takes no memory from the heap: it is lent as much of the largest buffer as it asks for.
+    // No plainer as an `ArrayVec`, which had to be filled with zeros first: a call is lent as much of the largest buffer as it asks for.
     let mut buffer = [0; MOST_SIZE];
     match parse(line) {
         Ok(ask) => match ask_vault(vault, ask, &mut buffer) {

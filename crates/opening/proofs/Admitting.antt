@@ -17,9 +17,6 @@ other_pass : {A B : Type 0} (ts : List Test) (a : A) (b x : B) → Ok x ≡ chec
 other_pass ts a b x h = ap (λ l. checked l a) (sym (append-nil ts)) ∙ checked_past ts [] a b x h
 
 module _ (marks grades : Order) (bs : List ℕ) (floor : ℕ) (contents : List (List ℕ)) where
-  pub misformed : (e : Refusal) → Err e ≡ reading bs → Err e ≡ opening marks grades bs floor contents false
-  misformed e h = checked_stop (form_tests bs) (later_tests marks grades contents (decoded bs) floor) (decoded bs) (decoded bs) e h
-
   module _ (b : Book) (h : Ok b ≡ reading bs) where
     well_formed : opening marks grades bs floor contents false ≡ checked (later_tests marks grades contents b floor) b
     well_formed =

@@ -22,5 +22,6 @@ made floor = result_map_both (λ b. record { floor = floor; sheets = first_sheet
 abbrev pub kept : Opening → Made
 kept o = record { floor = o.floor; sheets = o.sheets.items; seats = o.seats.items }
 
+-- those of an accepted opening, or its refusal
 abbrev pub admitted : Result Opening Refusal → Result Made Refusal
 admitted = result_map_both kept (λ e. e)

@@ -28,7 +28,7 @@ fn are_entries_classed<M: Order, G: Order>(orders: &Orders<M, G>, entries: &[Ent
     entries.iter().all(|e| is_classed(orders, e.label))
 }
 
-// Whether each certificate passes a test. A rule of the project names a `for` here.
+// Whether each certificate passes a test. A rule of the project wants a `for` here (docs/DECISIONS.md, Named forms).
 fn all_pass<F: Fn(Certificate) -> bool>(certificates: &[Certificate], test: F) -> bool
     requires { F.IsAlwaysCallable test }
     ensures { (passes : Certificate → Bool) → ((c : Certificate) (b : Bool) → F.post test c b → b ≡ passes c) → result ≡ list_all passes certificates.now }
@@ -41,7 +41,7 @@ fn all_pass<F: Fn(Certificate) -> bool>(certificates: &[Certificate], test: F) -
     true
 }
 
-// Whether both labels of each certificate have.
+// Whether both labels of each certificate have classes.
 fn are_certificates_classed<M: Order, G: Order>(
     orders: &Orders<M, G>,
     certificates: &[Certificate],

@@ -14,10 +14,11 @@ pub fn sheets_of(register: &Register) -> ArrayVec<Sheet, MOST_SHEETS>
     ensures { result.items ≡ first_sheets (book_of register.now) }
 {
     let mut sheets = ArrayVec::new();
-    // `as`, since `try_from` has an error that could not come: there are at most 64 entries.
+    // A rule of the project wants a `for` here and below, with the number and without (docs/DECISIONS.md, Named forms).
     for (k, e) in register.entries().iter().enumerate() {
         sheets.push(Sheet {
             label: e.label,
+            // `as`, since `try_from` has an error that could not come: there are at most 64 entries.
             certificate: find(register.certificates(), k as u16),
         });
     }

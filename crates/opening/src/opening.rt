@@ -1,5 +1,6 @@
 // What an accepted opening keeps of the register, and the look-up of a seat and of a sheet by number.
-ghost use Rattle.std.specs.Prelude.{◌≡◌};
+ghost use Rattle.std.specs.Prelude.{◌≡◌, [], ◌∷◌, length, nat_le, slice_index_or};
+ghost use Rattle.refusals.specs.Refusals.{checked, on};
 
 use arrayvec::ArrayVec;
 use model::seat::Seat;
@@ -22,19 +23,14 @@ impl Opening {
     pub fn seat(&self, seat: u16) -> Result<Seat, Refusal>
         ensures { result ≡ seat_of self.now seat }
     {
-        let seats = self.seats.as_slice();
-        seats.get(usize::from(seat)).copied().ok_or(Refusal::NoSeat)
+        row(self.seats.as_slice(), seat, Refusal::NoSeat)
     }
 
     // The label and the certificate of the sheet of this number.
     pub fn sheet(&self, sheet: u16) -> Result<Sheet, Refusal>
         ensures { result ≡ sheet_of self.now sheet }
     {
-        let sheets = self.sheets.as_slice();
-        sheets
-            .get(usize::from(sheet))
-            .copied()
-            .ok_or(Refusal::NoSheet)
+        row(self.sheets.as_slice(), sheet, Refusal::NoSheet)
     }
 
     // Puts another record in the place of seat i's; nothing changes where there is no such seat.
@@ -45,4 +41,11 @@ impl Opening {
             *place = seat;
         }
     }
+}
+
+// The row of a number, refused where there is none.
+fn row<T: Copy>(rows: &[T], i: u16, refusal: Refusal) -> Result<T, Refusal>
+    ensures { (blank : T) → result ≡ checked (on (nat_le (length rows.now) i) refusal ∷ []) (slice_index_or rows.now i blank) }
+{
+    rows.get(usize::from(i)).copied().ok_or(refusal)
 }

@@ -49,7 +49,7 @@ impl Refusal {
     pub fn number(self) -> u8
         ensures { result ≡ number_of self }
     {
-        self as u8
+        u8::from(self)
     }
 
     // Refuses unless the condition holds.
@@ -64,7 +64,8 @@ impl From<Refusal> for u8 {
     ghost from_gives = { λ refusal number. number ≡ number_of refusal };
 
     fn from(refusal: Refusal) -> u8 {
-        refusal.number()
+        // The discriminant, which a cast alone gives.
+        refusal as u8
     }
 }
 

@@ -1,18 +1,18 @@
--- Labels, entries and certificates where nothing was put, and certificates by their programs.
+-- Labels, entries and certificates where there is none, and certificates by their programs.
 use Rattle.std.specs.Prelude.{ℕ, List, Option, ◌==◌, find}
 use Rattle.register.specs.declared.label.Label.{Label}
 use Rattle.register.specs.declared.entry.Entry.{Entry}
 use Rattle.register.specs.declared.certificate.Certificate.{Certificate}
 
--- the label that stands in a table where nothing was put
+-- the label where there is none
 abbrev pub blank_label : Label
 blank_label = record { mark = 0; grade = 0 }
 
--- the entry that stands there
+-- the entry there
 abbrev pub blank_entry : Entry
 blank_entry = record { size = 0; label = blank_label }
 
--- the certificate that stands there
+-- the certificate there
 abbrev pub blank_certificate : Certificate
 blank_certificate = record { program = 0; reading = blank_label; writing = blank_label }
 

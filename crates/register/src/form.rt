@@ -72,6 +72,7 @@ impl Form<'_> {
         rows(self.layout.sheets, |k| self.entry(k))
     }
 
+    // The certificates, each with its program number.
     pub fn certificates(&self) -> ArrayVec<Certificate, MOST_CERTIFICATES>
         ensures { result.items ≡ map (certificate_at self.now.layout self.now.bytes.now) (range_with_len 0 self.now.layout.certificates) }
     {
@@ -94,6 +95,7 @@ fn rows<T: Default + Drop, const N: usize, F: Fn(usize) -> T>(count: u16, row: F
     ensures rows { (i : ℕ) (d : T) → i < count → F.post row i (slice_index_or result.items i d) }
 {
     let mut rows = ArrayVec::new();
+    // A rule of the project wants a `for` here (docs/DECISIONS.md, Named forms); `collect` would take memory from the heap, and could fail.
     for i in 0..usize::from(count) {
         rows.push(row(i));
     }

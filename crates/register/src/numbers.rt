@@ -8,7 +8,7 @@ use crate::certificate::{Certificate, find};
 use crate::entry::Entry;
 use crate::tables::Register;
 
-// How many bytes a sheet may have.
+// How many bytes a sheet may have. A store has a limit of its own, which is the same number.
 const MOST_BYTES: u32 = 4096;
 
 // Whether each size is within its limit.
@@ -35,7 +35,7 @@ fn programs_ascend(certificates: &[Certificate]) -> bool
         .all(|(c, next)| c.program < next.program)
 }
 
-// Both of these.
+// Whether each program number is a sheet's, and below the next.
 fn programs_climb(certificates: &[Certificate], sheets: usize) -> bool
     ensures { result ≡ programs_climb sheets certificates.now }
 {

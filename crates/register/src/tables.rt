@@ -6,7 +6,7 @@ use crate::certificate::Certificate;
 use crate::entry::Entry;
 use arrayvec::ArrayVec;
 
-// How many sheets, certificates and seats a register may have.
+// How many sheets, certificates and seats a register may have. A store has a limit of sheets of its own, which is the same number.
 pub const MOST_SHEETS: usize = 64;
 
 pub const MOST_CERTIFICATES: usize = 32;

@@ -2,3 +2,4 @@ pub mod Limiting
 mod Placing
 pub mod Rooms
 mod Spanning
+pub mod Sizing

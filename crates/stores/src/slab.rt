@@ -1,5 +1,5 @@
 // A slab: its sheets stand end to end, in number order, in one memory that it owns.
-ghost use Rattle.std.specs.Prelude.{◌≡◌, true, vec_len, sum, nat_le};
+ghost use Rattle.std.specs.Prelude.{◌≡◌, ◌≤◌, true, length, vec_len, sum, nat_le};
 
 use spans::spans::Spans;
 
@@ -10,5 +10,6 @@ mod making;
 pub struct Slab {
     memory: Vec<u8>,
     sheets: Spans<1>,
+    ghost few: { length sheets ≤ 64 },
     ghost inside: { nat_le (sum sheets) (vec_len memory) ≡ true },
 }

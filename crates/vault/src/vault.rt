@@ -19,7 +19,7 @@ use register::certificate::Certificate;
 use stores::store::Store;
 
 // A vault over an order of marks, an order of grades and a store. Calls change the store and the opening's seats alone.
-// It has no Model: clauses name its policy, its state and the store itself, and one value of all three would be no plainer.
+// No plainer with a Model: what a vault means needs the ghost members of its three bounds, which each clause would still name.
 #[derive(Drop)]
 pub struct Vault<M, G, S> {
     orders: Orders<M, G>,
@@ -103,7 +103,7 @@ impl<M: Order, G: Order, S: Store> Vault<M, G, S> {
         Ok(next)
     }
 
-    // Puts another record in the place of seat i's.
+    // Puts another record in the place of seat i's; nothing changes in a vault that is not open.
     fn put(&mut self, i: u16, seat: Seat)
         ensures state { state S.Store self.new ≡ with_seat (state S.Store self.old) i seat }
         ensures kept { Kept self.old self.new }

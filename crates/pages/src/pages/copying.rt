@@ -37,6 +37,7 @@ impl ListedPages {
         ensures list { self.new.list ≡ self.old.list }
         ensures listed { bytes_of self.new ≡ spliced (bytes_of self.old) at bytes.now }
         ensures others { OthersSame self.old.list.items self.old.memory.items self.new.memory.items }
+        ensures len { vec_len self.new.memory ≡ vec_len self.old.memory }
     {
         // Page i of the list takes the bytes from `done` on.
         for i in at / PAGE..(at + bytes.len()).div_ceil(PAGE) {

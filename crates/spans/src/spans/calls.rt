@@ -1,5 +1,5 @@
 // What is asked of the spans of a store's sheets at a call.
-ghost use Rattle.std.specs.Prelude.{◌≡◌, ◌+◌, length, take, sum_by, slice_index};
+ghost use Rattle.std.specs.Prelude.{◌≡◌, ◌+◌, ◌≤◌, length, take, sum_by, slice_index};
 ghost use Rattle.refusals.specs.Refusals.{checked};
 ghost use Rattle.spans.specs.Rooms.{room};
 ghost use Rattle.spans.specs.Bounds.{bound_tests};
@@ -10,7 +10,8 @@ use refusals::refusal::Refusal;
 impl<const UNIT: u16> Spans<UNIT> {
     // How many sheets there are.
     pub fn count(&self) -> u16
-        ensures { result ≡ length self.now }
+        ensures value { result ≡ length self.now }
+        ensures fits { result ≤ 64 }
     {
         // No plainer with `try_from`: there are at most 64, so its error could not come.
         self.rows.len() as u16
@@ -18,7 +19,8 @@ impl<const UNIT: u16> Spans<UNIT> {
 
     // The size of a sheet, and 0 where there is no such sheet.
     pub fn size(&self, sheet: u16) -> u32
-        ensures { result ≡ slice_index self.now sheet }
+        ensures value { result ≡ slice_index self.now sheet }
+        ensures fits { slice_index self.now sheet ≤ 4096 }
     {
         let rows = self.rows.as_slice();
         rows.get(usize::from(sheet)).map_or(0, |span| span.size)

@@ -32,4 +32,5 @@ loop-i-preserved c =
       c.loop-i.invariant.0,
       rw next (ap (λ l. gathered l s.list.items) put ∙ write_step at done on_a_page bytes ys after fits (bytes_of first) s.apart reach (rw now at c.loop-i.invariant.1)),
       λ n other. ap (λ l. page l n) put ∙ write_others at done on_a_page bytes ys after fits first.memory.items (λ k kept. c.loop-i.invariant.2 k (ap (λ l. unlisted l k) (sym same) ∙ kept)) n (ap (λ l. unlisted l n) same ∙ other),
+      c.loop-i.invariant.3,
     )

@@ -5,4 +5,4 @@ use Rattle.pages.specs.PageStores.{listed_bytes, page_sizes}
 use Rattle.pages.proofs.pages.calls.PagesStore.count.Goals as goal
 
 pub returns : goal.returns
-returns c = let s = c.args.self.now in c.count.ensures ∙ sym (length_cut (room 16) (page_sizes s) (listed_bytes s))
+returns c = let s = c.args.self.now in c.count.ensures.value ∙ sym (length_cut (room 16) (page_sizes s) (listed_bytes s))
