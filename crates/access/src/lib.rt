@@ -12,7 +12,7 @@ use refusals::refusal::Refusal;
 use register::certificate::Certificate;
 use register::label::Label;
 
-// The two orders of a vault. Clauses name the meaning of each by itself, as the definitions of the model take them.
+// The two orders of a vault. No plainer with a Model: clauses name the meaning of each by itself, as the definitions of the model take them.
 #[derive(Drop)]
 pub struct Orders<M, G> {
     pub marks: M,

@@ -49,7 +49,7 @@ fn ask_vault<'a, M: Order, G: Order, S: Store>(
             vault.write(seat, sheet, place, bytes)?;
             Ok(Answer::Done)
         }
-        // As for a read but for the call; a closure for the call would be no plainer.
+        // As for a read but for the call; a closure for it, which would be passed the vault and the stretch again, would be no plainer.
         Ask::Run(stretch) => {
             let part = &mut buffer[..usize::from(stretch.size)];
             vault.run(stretch.seat, stretch.sheet, stretch.place, part)?;

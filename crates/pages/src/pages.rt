@@ -28,7 +28,7 @@ struct ListedPages {
 
 // A page store: the listed pages of its memory, and where its sheets stand among their bytes. One generic type with the slab is
 // no plainer: it wants a trait for what holds the bytes, with a law of what a write leaves beside them, and shares four
-// calls of a line or two; what both have in common is `Spans`.
+// short calls; what both have in common is `Spans`.
 #[derive(Drop)]
 pub struct Pages {
     listed: ListedPages,

@@ -95,7 +95,7 @@ fn rows<T: Default + Drop, const N: usize, F: Fn(usize) -> T>(count: u16, row: F
     ensures rows { (i : ℕ) (d : T) → i < count → F.post row i (slice_index_or result.items i d) }
 {
     let mut rows = ArrayVec::new();
-    // A rule of the project wants a `for` here (docs/DECISIONS.md, Named forms); `collect` would take memory from the heap, and could fail.
+    // A rule of the project wants a `for` here (docs/DECISIONS.md, Named forms); `collect` would ask for an allocator, and could fail.
     for i in 0..usize::from(count) {
         rows.push(row(i));
     }

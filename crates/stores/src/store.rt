@@ -4,6 +4,7 @@ ghost use Rattle.stores.specs.Sheets.{filled, read_answer, size_of, write_answer
 
 use refusals::refusal::Refusal;
 
+// The numbers of a call stand apart, here and in the vault, as the rules name them one by one; a struct of them would be no plainer.
 pub trait Store {
     // The bytes of each sheet, in number order; a sheet's length is its size.
     ghost sheets: { Self → List (List ℕ) };

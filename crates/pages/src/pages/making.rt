@@ -24,7 +24,8 @@ fn inside(list: &[u16], memory_len: usize) -> bool
         .all(|page| PAGE * usize::from(*page) + PAGE <= memory_len)
 }
 
-// How sheets of these sizes stand on the listed pages of a memory of this length.
+// How sheets of these sizes stand on the listed pages of a memory of this length. The three are kept together nowhere, so a struct of
+// them would be no plainer.
 fn fit(sizes: &[u32], list: &[u16], memory_len: usize) -> Result<Spans<16>, Refusal>
     ensures { result ≡ fitted sizes.now list.now memory_len }
 {
