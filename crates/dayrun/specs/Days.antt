@@ -10,7 +10,6 @@ use Rattle.model.specs.Calls.{Call}
 use Rattle.model.specs.States.{Policy, State}
 use Rattle.model.specs.Runs.{Turn, turns, reply_at}
 use Rattle.model.specs.Opening.{fixed, started}
-use Rattle.model.specs.Orders.{order}
 use Rattle.asks.specs.Lines.{parsed}
 use Rattle.asks.specs.Replies.{text, line_text}
 use Rattle.asks.specs.Rows.{rows}
@@ -50,12 +49,12 @@ printed p s input = asks_text p s (asks_of input)
 module _ {M G S : Type 0} (m : Ordering M) (g : Ordering G) (s : Storage S) (v : Vault M G S) where
   -- the policy that an opening leaves
   abbrev pub opened_policy : ℕ → Result Book Refusal → Policy
-  opened_policy floor (Ok b) = fixed (order m v.orders.marks) (order g v.orders.grades) b floor
+  opened_policy floor (Ok b) = fixed (policy m g v).marks (policy m g v).grades b floor
   opened_policy floor (Err e) = policy m g v
 
   -- the seats and sheets that it leaves
   abbrev pub opened_state : Result Book Refusal → State
-  opened_state (Ok b) = started b (s.sheets v.store)
+  opened_state (Ok b) = started b (state s v).contents
   opened_state (Err e) = state s v
 
   -- the text of a day

@@ -4,25 +4,37 @@ ghost use Rattle.orders.specs.Ladder.{is_rung, at_or_below};
 ghost use Rattle.std.proofs.Common.{rules};
 
 use crate::order::Order;
+use std::marker::Model;
 
 #[derive(Clone, Copy)]
 pub struct Ladder {
     rungs: u8,
 }
 
+// Clauses see the number of rungs.
+impl Model for Ladder {
+    ghost use Rattle.std.specs.Prelude.{ℕ};
+
+    ghost Value = { ℕ };
+
+    ghost view = { λ l. l.rungs };
+
+    ghost inverse = { λ n. record { rungs = n } };
+}
+
 impl Ladder {
     // The ladder of this many rungs; one of none has no classes.
     pub fn new(rungs: u8) -> Ladder
-        ensures { result.rungs ≡ rungs }
+        ensures { result ≡ rungs }
     {
         Ladder { rungs }
     }
 }
 
 impl Order for Ladder {
-    ghost class = { λ o code. is_rung o.rungs code };
+    ghost class = { is_rung };
 
-    ghost below = { λ o a b. at_or_below o.rungs a b };
+    ghost below = { at_or_below };
 
     ghost ordered = { Prim.search rules };
 

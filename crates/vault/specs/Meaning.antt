@@ -34,6 +34,10 @@ policy m g v = record {
 abbrev pub state : {M G S : Type 0} → Storage S → Vault M G S → State
 state s v = record { seats = (kept_by v.opening).seats; contents = s.sheets v.store }
 
+-- the store itself, whatever its bytes beside the sheets
+abbrev pub store_of : {M G S : Type 0} → Vault M G S → S
+store_of v = v.store
+
 -- the answer that a call returns: no numbers, or the two that tell answers
 abbrev pub done : Result (Unit {0}) Refusal → Answer
 done = result_map_both (λ u. []) (λ e. e)

@@ -4,7 +4,7 @@ ghost use Rattle.std.specs.Result.{result_map_both};
 ghost use Rattle.model.specs.Calls.{read as reading, write as writing, run as running, hand as handing, tell as telling};
 ghost use Rattle.model.specs.Rules.{answer, after, reply};
 ghost use Rattle.model.specs.TwoRuns.{Law};
-ghost use Rattle.vault.specs.Meaning.{policy, state, told, done, opening_of, answer_of, Left, Closed, Kept, SizesStay};
+ghost use Rattle.vault.specs.Meaning.{policy, state, store_of, told, done, opening_of, answer_of, Left, Closed, Kept, SizesStay};
 ghost use Rattle.refusals.specs.Refusals.{checked};
 ghost use Rattle.model.specs.States.{seat_at, held, certificate_of, with_seat};
 ghost use Rattle.vault.specs.Parts.{opening_kept, read_front, write_front, run_front, hand_front};
@@ -107,7 +107,7 @@ impl<M: Order, G: Order, S: Store> Vault<M, G, S> {
     fn put(&mut self, i: u16, seat: Seat)
         ensures state { state S.Store self.new ≡ with_seat (state S.Store self.old) i seat }
         ensures kept { Kept self.old self.new }
-        ensures store { self.new.store ≡ self.old.store }
+        ensures store { store_of self.new ≡ store_of self.old }
     {
         if let Some(opening) = &mut self.opening {
             opening.put(i, seat);
@@ -160,7 +160,7 @@ impl<M: Order, G: Order, S: Store> Vault<M, G, S> {
         ensures buffer { buffer.new ≡ (reply (policy M.Order G.Order self.old) (state S.Store self.old) (running seat sheet place buffer.old)).buffer }
         ensures after { state S.Store self.new ≡ after (policy M.Order G.Order self.old) (state S.Store self.old) (running seat sheet place buffer.old) }
         ensures kept { Kept self.old self.new }
-        ensures store { self.new.store ≡ self.old.store }
+        ensures store { store_of self.new ≡ store_of self.old }
     {
         let mut caller = self.may_run(seat, sheet)?;
         self.store.read(sheet, place, buffer)?;
@@ -174,7 +174,7 @@ impl<M: Order, G: Order, S: Store> Vault<M, G, S> {
         ensures value { done result ≡ answer (policy M.Order G.Order self.old) (state S.Store self.old) (handing seat sheet slip) }
         ensures after { state S.Store self.new ≡ after (policy M.Order G.Order self.old) (state S.Store self.old) (handing seat sheet slip) }
         ensures kept { Kept self.old self.new }
-        ensures store { self.new.store ≡ self.old.store }
+        ensures store { store_of self.new ≡ store_of self.old }
     {
         let certificate = self.may_hand(seat, sheet)?;
         let handed = Seat {
