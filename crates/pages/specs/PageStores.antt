@@ -7,6 +7,7 @@ use Rattle.stores.specs.Cuts.{cut}
 use Rattle.spans.specs.Limits.{within_limits}
 use Rattle.spans.specs.Rooms.{room}
 use Rattle.stores.specs.Sheets.{write_answer}
+use Rattle.spans.specs.Sizes.{sizes_of}
 use Rattle.stores.specs.Splices.{spliced}
 use Rattle.pages.specs.Paging.{all_inside, gathered, needed, none_twice, OthersSame}
 use Rattle.pages.specs.declared.pages.ListedPages.{ListedPages}
@@ -22,7 +23,7 @@ page_list s = vec_items s.listed.list
 
 -- the sizes of the sheets, in number order
 abbrev pub page_sizes : Pages → List ℕ
-page_sizes s = s.sheets
+page_sizes s = sizes_of s.sheets
 
 -- the bytes of the listed pages, one page after the other
 abbrev pub bytes_of : ListedPages → List ℕ

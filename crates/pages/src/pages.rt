@@ -1,6 +1,7 @@
 // A page store: its sheets take whole pages of a memory that it owns. A list of page numbers says which: the first sheet
 // takes the first pages of the list, as many as its size needs, and each other sheet the next ones.
 ghost use Rattle.std.specs.Prelude.{◌≡◌, ◌≤◌, true, vec_len};
+ghost use Rattle.spans.specs.Sizes.{sizes_of};
 ghost use Rattle.pages.specs.Paging.{all_inside, needed, none_twice};
 
 use spans::spans::Spans;
@@ -33,5 +34,5 @@ struct ListedPages {
 pub struct Pages {
     listed: ListedPages,
     sheets: Spans<16>,
-    ghost enough: { vec_len listed.list ≡ needed sheets },
+    ghost enough: { vec_len listed.list ≡ needed (sizes_of sheets) },
 }

@@ -1,7 +1,6 @@
 // The binary form of a register: its bytes with the counts that they begin with, and what they say row by row.
-ghost use Rattle.std.specs.Prelude.{◌≡◌, ◌+◌, ◌<◌, ◌≤◌, ℕ, true, length, map, slice_index_or};
+ghost use Rattle.std.specs.Prelude.{◌≡◌, ◌+◌, ◌<◌, ◌≤◌, ℕ, true, length, map, take, slice_index_or};
 ghost use Rattle.std.specs.List.{range_with_len};
-ghost use Rattle.arrayvec.specs.ArrayVec.{array_vec_len};
 ghost use Rattle.register.specs.Layout.{within_limits, whole_length, label_count, label_at, entry_at, certificate_at, start_at};
 
 use crate::certificate::Certificate;
@@ -10,7 +9,6 @@ use crate::fields::field;
 use crate::label::Label;
 use crate::layout::{HEAD, Layout};
 use crate::tables::{MOST_CERTIFICATES, MOST_SEATS, MOST_SHEETS};
-use arrayvec::ArrayVec;
 
 // Counts within their limits, with the bytes that they begin: as many as they ask for.
 #[derive(Clone, Copy)]
@@ -65,39 +63,42 @@ impl Form<'_> {
         u16::from_be_bytes(field(self.bytes, self.layout.starts_from() + 2 * i))
     }
 
-    // An entry for each sheet.
-    pub fn entries(&self) -> ArrayVec<Entry, MOST_SHEETS>
-        ensures { result.items ≡ map (entry_at self.now.layout self.now.bytes.now) (range_with_len 0 self.now.layout.sheets) }
+    // An entry for each sheet, in front.
+    pub fn entries(&self) -> [Entry; MOST_SHEETS]
+        ensures rows { take self.now.layout.sheets result ≡ map (entry_at self.now.layout self.now.bytes.now) (range_with_len 0 self.now.layout.sheets) }
+        ensures size { length result ≡ 64 }
     {
         rows(self.layout.sheets, |k| self.entry(k))
     }
 
-    // The certificates, each with its program number.
-    pub fn certificates(&self) -> ArrayVec<Certificate, MOST_CERTIFICATES>
-        ensures { result.items ≡ map (certificate_at self.now.layout self.now.bytes.now) (range_with_len 0 self.now.layout.certificates) }
+    // The certificates, each with its program number, in front.
+    pub fn certificates(&self) -> [Certificate; MOST_CERTIFICATES]
+        ensures rows { take self.now.layout.certificates result ≡ map (certificate_at self.now.layout self.now.bytes.now) (range_with_len 0 self.now.layout.certificates) }
+        ensures size { length result ≡ 32 }
     {
         rows(self.layout.certificates, |j| self.certificate(j))
     }
 
-    // The program that each seat starts with.
-    pub fn starts(&self) -> ArrayVec<u16, MOST_SEATS>
-        ensures { result.items ≡ map (start_at self.now.layout self.now.bytes.now) (range_with_len 0 self.now.layout.seats) }
+    // The program that each seat starts with, in front.
+    pub fn starts(&self) -> [u16; MOST_SEATS]
+        ensures rows { take self.now.layout.seats result ≡ map (start_at self.now.layout self.now.bytes.now) (range_with_len 0 self.now.layout.seats) }
+        ensures size { length result ≡ 32 }
     {
         rows(self.layout.seats, |i| self.start(i))
     }
 }
 
-// A table with as many rows as are counted, each as `row` gives it at its place.
-fn rows<T: Default + Drop, const N: usize, F: Fn(usize) -> T>(count: u16, row: F) -> ArrayVec<T, N>
+// A table with as many rows in front as are counted, each as `row` gives it at its place, and blanks after them.
+fn rows<T: Copy + Default, const N: usize, F: Fn(usize) -> T>(count: u16, row: F) -> [T; N]
     requires room { count ≤ N }
     requires callable { (i : ℕ) → i < count → F.pre row i }
-    ensures count { array_vec_len result ≡ count }
-    ensures rows { (i : ℕ) (d : T) → i < count → F.post row i (slice_index_or result.items i d) }
+    ensures rows { (i : ℕ) (d : T) → i < count → F.post row i (slice_index_or result i d) }
+    ensures size { length result ≡ N }
 {
-    let mut rows = ArrayVec::new();
-    // A rule of the project wants a `for` here (docs/DECISIONS.md, Named forms); `collect` would ask for an allocator, and could fail.
+    let mut rows = [T::default(); N];
+    // A rule of the project wants a `for` here (docs/DECISIONS.md, Named forms).
     for i in 0..usize::from(count) {
-        rows.push(row(i));
+        rows[i] = row(i);
     }
     rows
 }

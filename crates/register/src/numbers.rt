@@ -1,7 +1,7 @@
 // Whether the numbers of a register are sound: its sizes, its program numbers and its starting numbers.
 ghost use Rattle.std.specs.Prelude.{◌≡◌};
 ghost use Rattle.std.specs.List.{list_all};
-ghost use Rattle.register.specs.Numbers.{size_fits, programs_are_sheets, programs_ascend, programs_climb, is_program, numbers_sound};
+ghost use Rattle.register.specs.Numbers.{size_fits, programs_ascend, programs_climb, is_program, numbers_sound};
 ghost use Rattle.register.specs.Tables.{book_of};
 
 use crate::certificate::{Certificate, find};
@@ -18,13 +18,6 @@ fn sizes_fit(entries: &[Entry]) -> bool
     entries.iter().all(|e| e.size <= MOST_BYTES)
 }
 
-// Whether each program number is below the count of sheets.
-fn programs_are_sheets(certificates: &[Certificate], sheets: usize) -> bool
-    ensures { result ≡ programs_are_sheets sheets certificates.now }
-{
-    certificates.iter().all(|c| usize::from(c.program) < sheets)
-}
-
 // Whether each program number is below the next.
 fn programs_ascend(certificates: &[Certificate]) -> bool
     ensures { result ≡ programs_ascend certificates.now }
@@ -35,11 +28,14 @@ fn programs_ascend(certificates: &[Certificate]) -> bool
         .all(|(c, next)| c.program < next.program)
 }
 
-// Whether each program number is a sheet's, and below the next.
+// Whether each program number is a sheet's, and below the next: where they ascend, the last is the highest.
 fn programs_climb(certificates: &[Certificate], sheets: usize) -> bool
     ensures { result ≡ programs_climb sheets certificates.now }
 {
-    programs_are_sheets(certificates, sheets) && programs_ascend(certificates)
+    match certificates {
+        [] => true,
+        [.., last] => usize::from(last.program) < sheets && programs_ascend(certificates),
+    }
 }
 
 // Whether each starting number is a program's.

@@ -29,8 +29,11 @@ pub fn read(bytes: &[u8]) -> Result<Register, Refusal>
     Refusal::RegisterLength.unless(bytes.len() == layout.whole_length())?;
     let form = Form { layout, bytes };
     Ok(Register {
+        entry_count: layout.sheets,
         entries: form.entries(),
+        certificate_count: layout.certificates,
         certificates: form.certificates(),
+        start_count: layout.seats,
         starts: form.starts(),
     })
 }

@@ -1,10 +1,8 @@
-// The register as it is kept: three tables.
+// The register as it is kept: three tables, each with the count of its rows that are in use.
 ghost use Rattle.std.specs.Prelude.{◌≤◌};
-ghost use Rattle.arrayvec.specs.ArrayVec.{array_vec_len};
 
 use crate::certificate::Certificate;
 use crate::entry::Entry;
-use arrayvec::ArrayVec;
 
 // How many sheets, certificates and seats a register may have. A store has a limit of sheets of its own, which is the same number.
 pub const MOST_SHEETS: usize = 64;
@@ -13,16 +11,19 @@ pub const MOST_CERTIFICATES: usize = 32;
 
 pub const MOST_SEATS: usize = 32;
 
-// What a register says: an entry for each sheet, the certificates, and the program that each seat starts with.
-// An ArrayVec is seen as its items alone, so the ghost fields say that they are no more than its capacity.
-#[derive(Drop)]
+// What a register says: an entry for each sheet, the certificates, and the program that each seat starts with. Arrays with counts
+// and no vectors of the library's, which cannot be copied.
+#[derive(Clone, Copy)]
 pub struct Register {
-    pub(crate) entries: ArrayVec<Entry, MOST_SHEETS>,
-    pub(crate) certificates: ArrayVec<Certificate, MOST_CERTIFICATES>,
-    pub(crate) starts: ArrayVec<u16, MOST_SEATS>,
-    ghost entries_fit: { array_vec_len entries ≤ 64 },
-    ghost certificates_fit: { array_vec_len certificates ≤ 32 },
-    ghost starts_fit: { array_vec_len starts ≤ 32 },
+    pub(crate) entry_count: u16,
+    pub(crate) entries: [Entry; MOST_SHEETS],
+    pub(crate) certificate_count: u16,
+    pub(crate) certificates: [Certificate; MOST_CERTIFICATES],
+    pub(crate) start_count: u16,
+    pub(crate) starts: [u16; MOST_SEATS],
+    ghost entries_fit: { entry_count ≤ 64 },
+    ghost certificates_fit: { certificate_count ≤ 32 },
+    ghost starts_fit: { start_count ≤ 32 },
 }
 
 impl Register {
@@ -33,20 +34,20 @@ impl Register {
     pub fn entries(&self) -> &[Entry]
         ensures { result.now ≡ (book_of self.now).entries }
     {
-        &self.entries
+        &self.entries[..usize::from(self.entry_count)]
     }
 
     // The certificates, in the order of their program numbers where the numbers are sound.
     pub fn certificates(&self) -> &[Certificate]
         ensures { result.now ≡ (book_of self.now).certificates }
     {
-        &self.certificates
+        &self.certificates[..usize::from(self.certificate_count)]
     }
 
     // The program that each seat starts with.
     pub fn starts(&self) -> &[u16]
         ensures { result.now ≡ (book_of self.now).starts }
     {
-        &self.starts
+        &self.starts[..usize::from(self.start_count)]
     }
 }

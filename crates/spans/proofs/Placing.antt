@@ -1,9 +1,7 @@
 -- Where each of the spans starts that stand one after the other, and one span more.
-use Rattle.std.proofs.Common.{◌≡◌, ℕ, zero, suc, ◌+◌, ◌*◌, ◌<◌, ◌≤◌, true, eqb, leb, List, [], ◌∷◌, ◌++◌, length, get_or, take, sum_by, sym, refl, ◌∙◌, add-zero, arith}
-use Rattle.std.proofs.lemmas.List.Folds.{list_all-append}
-use Rattle.std.proofs.lemmas.List.Sums.{AllPass-from_list_all, sum_by-cons, sum_by-le}
-use Rattle.std.proofs.lemmas.Bool.{and_from, and_parts, eq-eqb, eqb-true, le-leb, leb-true}
-use Rattle.spans.specs.Limits.{small}
+use Rattle.std.proofs.Common.{◌≡◌, ℕ, zero, suc, ◌+◌, ◌<◌, true, eqb, List, [], ◌∷◌, ◌++◌, length, get_or, take, sum_by, sym, refl, ◌∙◌, add-zero, arith}
+use Rattle.std.proofs.lemmas.List.Sums.{sum_by-cons}
+use Rattle.std.proofs.lemmas.Bool.{and_from, and_parts, eq-eqb, eqb-true}
 use Rattle.spans.specs.Spans.{placed, sizes_in}
 use Rattle.spans.specs.declared.spans.span.Span.{Span}
 
@@ -22,11 +20,3 @@ module _ (room : ℕ → ℕ) where
   placed_push here (s ∷ spans) y packed next =
       let parts = and_parts (eqb s.start here) _ packed in
       and_from _ _ parts.0 (placed_push (here + room s.size) spans y parts.1 (omega (arith, sum_by-cons room s.size (sizes_in spans))))
-
-pub small_push : (zs : List ℕ) (z : ℕ) → small zs ≡ true → z ≤ 4096 → small (zs ++ z ∷ []) ≡ true
-small_push zs z few fits = list_all-append (λ y. leb y 4096) zs (z ∷ []) ∙ rw (few, le-leb z 4096 fits) refl
-
--- what small sheets take, where each takes less than a unit more than its size
-pub small_sum : (room : ℕ → ℕ) (more : ℕ) → ((z : ℕ) → room z ≤ z + more) → (zs : List ℕ) → small zs ≡ true → sum_by room zs ≤ length zs * (4096 + more)
-small_sum room more short zs few =
-    sum_by-le room (4096 + more) zs (λ k d below. omega (arith, short (get_or zs k d), leb-true (get_or zs k d) 4096 (AllPass-from_list_all (λ y. leb y 4096) zs few k d below)))

@@ -5,6 +5,7 @@ use Rattle.refusals.specs.declared.refusal.Refusal.{Refusal}
 use Rattle.refusals.specs.declared.refusal.Refusal.TheVariants.{PastMemory, StoreLimit}
 use Rattle.spans.specs.Limits.{within_limits}
 use Rattle.spans.specs.Rooms.{exact}
+use Rattle.spans.specs.Sizes.{sizes_of}
 use Rattle.stores.specs.Cuts.{cut}
 use Rattle.stores.specs.Sheets.{write_answer}
 use Rattle.stores.specs.Splices.{spliced}
@@ -16,7 +17,7 @@ slab_memory s = vec_items s.memory
 
 -- the sizes of the sheets, in number order
 abbrev pub slab_sizes : Slab → List ℕ
-slab_sizes s = s.sheets
+slab_sizes s = sizes_of s.sheets
 
 -- the sheets: the first at the front of the memory, and each other where the one before it ends
 abbrev pub slab_sheets : Slab → List (List ℕ)

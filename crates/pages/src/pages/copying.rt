@@ -7,14 +7,15 @@ ghost use Rattle.pages.specs.PageStores.{bytes_of};
 use crate::pages::{ListedPages, PAGE};
 
 impl ListedPages {
-    // Where in the memory the listed byte `at` stands, and how many of the `len` bytes from it on stand on the same page.
-    fn stretch(&self, at: usize, len: usize) -> (usize, usize)
-        requires { at < 16 * vec_len self.now.list }
-        ensures start { result.0 ≡ 16 * slice_index self.now.list.items (at / 16) + at % 16 }
+    // Where in the memory the listed byte `at` stands, which is on page i of the list, and how many of the `len` bytes from it on stand
+    // on the same page.
+    fn stretch(&self, i: usize, at: usize, len: usize) -> (usize, usize)
+        requires { i < vec_len self.now.list }
+        ensures start { result.0 ≡ 16 * slice_index self.now.list.items i + at % 16 }
         ensures len { result.1 ≡ min len (16 - at % 16) }
     {
         let inside = at % PAGE;
-        let page = usize::from(self.list[at / PAGE]);
+        let page = usize::from(self.list[i]);
         (PAGE * page + inside, len.min(PAGE - inside))
     }
 
@@ -24,10 +25,11 @@ impl ListedPages {
         ensures { buffer.new ≡ take (length buffer.old) (drop at (bytes_of self.now)) }
     {
         // Page i of the list has the bytes from `done` on.
+        let mut done = 0;
         for i in at / PAGE..(at + buffer.len()).div_ceil(PAGE) {
-            let done = (PAGE * i).saturating_sub(at);
-            let (start, len) = self.stretch(at + done, buffer.len() - done);
+            let (start, len) = self.stretch(i, at + done, buffer.len() - done);
             buffer[done..done + len].copy_from_slice(&self.memory[start..start + len]);
+            done += len;
         }
     }
 
@@ -40,10 +42,11 @@ impl ListedPages {
         ensures len { vec_len self.new.memory ≡ vec_len self.old.memory }
     {
         // Page i of the list takes the bytes from `done` on.
+        let mut done = 0;
         for i in at / PAGE..(at + bytes.len()).div_ceil(PAGE) {
-            let done = (PAGE * i).saturating_sub(at);
-            let (start, len) = self.stretch(at + done, bytes.len() - done);
+            let (start, len) = self.stretch(i, at + done, bytes.len() - done);
             self.memory[start..start + len].copy_from_slice(&bytes[done..done + len]);
+            done += len;
         }
     }
 }

@@ -1,5 +1,7 @@
 // The check that comes before a page store is made, and the making.
 ghost use Rattle.std.specs.Prelude.{◌≡◌, not};
+ghost use Rattle.std.specs.Result.{result_map_both};
+ghost use Rattle.spans.specs.Sizes.{sizes_of};
 ghost use Rattle.pages.specs.PageStores.{fitted, made_list, made_sheets, page_check, page_list, page_memory, page_sheets};
 ghost use Rattle.pages.specs.Paging.{all_inside, none_twice};
 
@@ -27,7 +29,7 @@ fn inside(list: &[u16], memory_len: usize) -> bool
 // How sheets of these sizes stand on the listed pages of a memory of this length. The three are kept together nowhere, so a struct of
 // them would be no plainer.
 fn fit(sizes: &[u32], list: &[u16], memory_len: usize) -> Result<Spans<16>, Refusal>
-    ensures { result ≡ fitted sizes.now list.now memory_len }
+    ensures { result_map_both sizes_of (λ e. e) result ≡ fitted sizes.now list.now memory_len }
 {
     let sheets = Spans::new(sizes)?;
     if list.len() > MOST_PAGES {

@@ -1,5 +1,7 @@
 // The check that comes before a slab is made, and the making.
 ghost use Rattle.std.specs.Prelude.{◌≡◌};
+ghost use Rattle.std.specs.Result.{result_map_both};
+ghost use Rattle.spans.specs.Sizes.{sizes_of};
 ghost use Rattle.stores.specs.Slabs.{fitted, made_sheets, slab_check, slab_memory, slab_sheets};
 
 use crate::slab::Slab;
@@ -8,7 +10,7 @@ use spans::spans::Spans;
 
 // How sheets of these sizes stand in a memory of this length.
 fn fit(sizes: &[u32], memory_len: usize) -> Result<Spans<1>, Refusal>
-    ensures { result ≡ fitted sizes.now memory_len }
+    ensures { result_map_both sizes_of (λ e. e) result ≡ fitted sizes.now memory_len }
 {
     let sheets = Spans::new(sizes)?;
     if sheets.end() > memory_len {
