@@ -28,12 +28,11 @@ answer_text c buffer (Ok numbers) = codes "ok" ++ (flat_map (λ n. codes " " ++ 
 abbrev pub text : Call → Reply → List ℕ
 text c reply = answer_text c reply.buffer reply.answer
 
--- a printed line, case by case; an opening's has the number of its refusal, 0 where it is accepted
+-- a printed line, case by case
 abbrev pub line_text : Answer → List ℕ
 line_text Malformed = codes "?"
 line_text (Refused refusal) = codes "no " ++ decimal (number_of refusal)
 line_text Done = codes "ok"
 line_text (Filled buffer) = codes "ok " ++ map visible buffer.now
 line_text (Told program slip) = codes "ok " ++ (decimal program ++ (codes " " ++ decimal slip))
-line_text (Opened (Ok u)) = codes "open 0"
-line_text (Opened (Err refusal)) = codes "open " ++ decimal (number_of refusal)
+line_text (Opened number) = codes "open " ++ decimal number

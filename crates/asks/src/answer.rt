@@ -5,7 +5,7 @@ ghost use Rattle.asks.specs.Replies as replies;
 use refusals::refusal::Refusal;
 use std::fmt;
 
-// A printed line: for a malformed line of input, for an answered call, and for the opening.
+// A printed line: for a malformed line of input, for an answered call, and for the opening, with its number.
 #[derive(Clone, Copy, Debug)]
 pub enum Answer<'a> {
     Malformed,
@@ -15,7 +15,7 @@ pub enum Answer<'a> {
     Filled(&'a [u8]),
     // The running program and the slip.
     Told(u16, u64),
-    Opened(Result<(), Refusal>),
+    Opened(u8),
 }
 
 // Bytes as they are printed: those that show no sign as a dot.
@@ -53,8 +53,7 @@ impl fmt::Display for Answer<'_> {
             Answer::Done => write!(f, "ok"),
             Answer::Filled(buffer) => write!(f, "ok {}", Visible(buffer)),
             Answer::Told(program, slip) => write!(f, "ok {program} {slip}"),
-            Answer::Opened(Ok(())) => write!(f, "open 0"),
-            Answer::Opened(Err(refusal)) => write!(f, "open {refusal}"),
+            Answer::Opened(number) => write!(f, "open {number}"),
         }
     }
 }

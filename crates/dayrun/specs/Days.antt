@@ -4,6 +4,7 @@ use Rattle.std.specs.Prelude.{ℕ, List, [], ◌∷◌, ◌++◌, map, Some, Non
 use Rattle.std.specs.List.{flat_map}
 use Rattle.orders.specs.declared.order.Order.{Ghosts as Ordering}
 use Rattle.stores.specs.declared.store.Store.{Ghosts as Storage}
+use Rattle.refusals.specs.Refusals.{number_of}
 use Rattle.refusals.specs.declared.refusal.Refusal.{Refusal}
 use Rattle.register.specs.Tables.{Book}
 use Rattle.model.specs.Calls.{Call}
@@ -46,6 +47,11 @@ asks_text p s asks = flat_map ended (answers p asks (turns p s (calls_of asks)))
 abbrev pub printed : Policy → State → List ℕ → List ℕ
 printed p s input = asks_text p s (asks_of input)
 
+-- the number of an opening's answer, 0 where it is accepted
+abbrev pub opening_number : Result (Unit {0}) Refusal → ℕ
+opening_number (Ok u) = 0
+opening_number (Err e) = number_of e
+
 module _ {M G S : Type 0} (m : Ordering M) (g : Ordering G) (s : Storage S) (v : Vault M G S) where
   -- the policy that an opening leaves
   abbrev pub opened_policy : ℕ → Result Book Refusal → Policy
@@ -60,4 +66,4 @@ module _ {M G S : Type 0} (m : Ordering M) (g : Ordering G) (s : Storage S) (v :
   -- the text of a day
   abbrev pub day_text : List ℕ → ℕ → List ℕ → List ℕ
   day_text bs floor input = let o = opening_of m g s v bs floor in
-      ended (line_text (Opened (answer_of o))) ++ printed (opened_policy floor o) (opened_state o) input
+      ended (line_text (Opened (opening_number (answer_of o)))) ++ printed (opened_policy floor o) (opened_state o) input

@@ -1,5 +1,5 @@
 -- The example vault, as a table, and the register that says it.
-use Rattle.std.specs.Prelude.{ℕ, ◌/◌, ◌%◌, ◌^◌, List, [], ◌∷◌, ◌++◌, length, replicate, Ok}
+use Rattle.std.specs.Prelude.{ℕ, ◌/◌, ◌%◌, ◌^◌, List, [], ◌∷◌, ◌++◌, length, replicate}
 use Rattle.std.specs.List.{flat_map}
 use Rattle.register.specs.Tables.{Book}
 use Rattle.register.specs.declared.label.Label.{Label}
@@ -78,7 +78,7 @@ example_state = started book zeros
 
 -- the text of a day at the example vault over a store whose sheets have these bytes
 abbrev pub text_from : List (List ℕ) → List ℕ → List ℕ
-text_from contents input = ended (line_text (Opened (Ok tt))) ++ printed example_policy (started book contents) input
+text_from contents input = ended (line_text (Opened 0)) ++ printed example_policy (started book contents) input
 
 -- the text of a day at the example vault, whose store is of zeros
 abbrev pub example_text : List ℕ → List ℕ

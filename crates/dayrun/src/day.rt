@@ -3,7 +3,7 @@ ghost use Rattle.std.specs.Prelude.{◌≡◌, ◌++◌, IfOk, string_bytes, OnO
 ghost use Rattle.asks.specs.Replies.{line_text};
 ghost use Rattle.asks.specs.declared.answer.Answer.TheVariants.{Opened};
 ghost use Rattle.vault.specs.Meaning.{policy, state, opening_of, answer_of, Left};
-ghost use Rattle.dayrun.specs.Days.{ended, printed, day_text};
+ghost use Rattle.dayrun.specs.Days.{ended, printed, opening_number, day_text};
 
 use crate::answering;
 use asks::answer::Answer;
@@ -16,17 +16,18 @@ use vault::vault::Vault;
 // The most bytes of an input; what stands beyond is not read.
 pub const MOST_INPUT: u64 = 16_384;
 
-// Opens the vault, and adds the opening's answer.
+// Opens the vault, and adds the opening's number: 0 where it is accepted.
 fn open<M: Order, G: Order, S: Store>(
     vault: &mut Vault<M, G, S>,
     out: &mut String,
     register: &[u8],
     floor: u64,
 ) -> Result<(), AllocError>
-    ensures bytes { OnOk result (string_bytes out.new ≡ string_bytes out.old ++ ended (line_text (Opened (answer_of (opening_of M.Order G.Order S.Store vault.old register.now floor))))) }
+    ensures bytes { OnOk result (string_bytes out.new ≡ string_bytes out.old ++ ended (line_text (Opened (opening_number (answer_of (opening_of M.Order G.Order S.Store vault.old register.now floor)))))) }
     ensures after { Left vault.old floor (opening_of M.Order G.Order S.Store vault.old register.now floor) vault.new }
 {
-    answering::print(out, Answer::Opened(vault.open(register, floor)))
+    let refused = vault.open(register, floor).err();
+    answering::print(out, Answer::Opened(refused.map_or(0, u8::from)))
 }
 
 // Answers each line of the input, and adds what is printed for it.

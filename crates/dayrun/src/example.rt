@@ -16,6 +16,7 @@ use crate::day;
 use orders::compartments::Compartments;
 use orders::ladder::Ladder;
 use std::alloc::{AllocError, Global};
+use std::fmt;
 use stores::slab::Slab;
 use stores::store::Store;
 use vault::vault::Vault;
@@ -68,10 +69,11 @@ pub fn text_over<S: Store + Drop>(
     day::text(alloc, vault, register(), FLOOR, input)
 }
 
-// The text of a day at the example vault. Only want of memory fails.
-pub fn text(alloc: Global, input: &[u8]) -> Result<String, AllocError>
+// The text of a day at the example vault. Only want of memory fails; where it comes while the text is made, it is told as the error
+// of formatting.
+pub fn text(alloc: Global, input: &[u8]) -> anyhow::Result<String>
     ensures { IfOk result (λ out. string_bytes out ≡ example_text input.now) }
 {
     let memory = vec![in alloc; 0; MEMORY]?;
-    text_over(alloc, Slab::new(&SIZES, memory), input)
+    Ok(text_over(alloc, Slab::new(&SIZES, memory), input).map_err(fmt::Error::from)?)
 }

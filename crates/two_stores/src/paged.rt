@@ -6,6 +6,7 @@ ghost use Rattle.dayrun.specs.Example.{example_text, zeros};
 use dayrun::example;
 use pages::pages::Pages;
 use std::alloc::{AllocError, Global};
+use std::fmt;
 
 // Each of the five sheets has one page. Pages 4 and 5 of the seven are not used.
 const LIST: [u16; 5] = [3, 1, 6, 0, 2];
@@ -21,9 +22,9 @@ fn store(alloc: Global) -> Result<Pages, AllocError>
     Ok(Pages::new(&example::SIZES, list, memory))
 }
 
-// The text of a day. Only want of memory fails.
-pub fn text(alloc: Global, input: &[u8]) -> Result<String, AllocError>
+// The text of a day. Only want of memory fails; where it comes while the text is made, it is told as the error of formatting.
+pub fn text(alloc: Global, input: &[u8]) -> anyhow::Result<String>
     ensures { IfOk result (λ out. string_bytes out ≡ example_text input.now) }
 {
-    example::text_over(alloc, store(alloc)?, input)
+    Ok(example::text_over(alloc, store(alloc)?, input).map_err(fmt::Error::from)?)
 }
